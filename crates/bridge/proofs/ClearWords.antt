@@ -1,0 +1,119 @@
+-- A refused statement, by an area's words.
+-- Assumes nothing.
+use mathlib.Core.Path.{_≡_, refl, sym, _∙_, ap, ap₂, subst}
+use mathlib.Core.Bool.{Bool, true, false}
+use mathlib.Core.List.{List, [], _∷_, _++_, map, reverse, append-assoc}
+use Prim.Native.Nat.{ℕ, zero, suc, _+_, _-_, _*_, _≤_, _<_}
+use native.Mathlib.Omega.{arith}
+use lib.Dec.{eqb}
+use lib.IntN.{ℤ, pos}
+use lib.ListN.{length, getD, take, drop, replicate, length-append, length-map, length-reverse, length-replicate}
+use lib.Seq.{take-append-seam, take-at}
+use Rattle.bridge.proofs.JournalWords.{journalStart, flat-sized}
+use Rattle.bridge.proofs.RoundTrip.{Formed, levelList, recordList, records-sized, records-count, of-size, levels-length, tables-are, flat-zeros}
+use Rattle.bridge.proofs.RowWords.{formed-fit, use-is}
+use Rattle.bridge.proofs.Tests.{all-append}
+use Rattle.bridge.proofs.Undo.{Undoes, Fine, went, stopped, put-back-all}
+use Rattle.bridge.proofs.Views.{words-view}
+use Rattle.bridge.specs.Fit.{workOf, Fit, Keeps}
+use Rattle.rules.specs.Area.{levelWords, entryWords, words, view, legible}
+use Rattle.rules.specs.Book.{Entry, Work, Book, undoTo, cleared, zeroRecords, withWork}
+use Rattle.rules.specs.Change.{Result, go, stop}
+use Rattle.rules.specs.Lists.{𝟘, flat}
+use Rattle.rules.specs.Rows.{Row, Tables}
+use Rattle.rules.specs.State.{placed}
+use Rattle.rules.specs.Values.{natOf}
+use Rattle.rules.specs.declared.Refusal.{Refusal}
+use Rattle.schema.proofs.SchemaLaws.{Valid}
+use Rattle.schema.specs.Ranges.{all}
+use Rattle.schema.specs.Records.{Schema}
+use Rattle.schema.specs.Sizes.{rowsSize, areaSize}
+
+flat-append : {A : Type 0} (xs ys : List (List A)) → flat (xs ++ ys) ≡ flat xs ++ flat ys
+unfolding flat
+flat-append [] ys = refl
+flat-append (x ∷ xs) ys = ap (λ l. x ++ l) (flat-append xs ys) ∙ sym (append-assoc x (flat xs) (flat ys))
+
+-- the words before the spare records
+front : Book → List ℤ
+front b =
+    (pos (length (b .levels)) ∷ pos (b .opener) ∷ pos (length (b .work .used)) ∷ 𝟘 ∷ [])
+    ++ (b .kept
+    ++ (flat (map levelWords (reverse (b .levels)) ++ b .closed)
+    ++ (flat (map flat (b .work .tabs))
+    ++ flat (map entryWords (reverse (b .work .used))))))
+
+five : {A : Type 0} (h k l r u v : List A) → h ++ (k ++ (l ++ (r ++ (u ++ v)))) ≡ (h ++ (k ++ (l ++ (r ++ u)))) ++ v
+five h k l r u v = simp append-assoc
+
+words-front : (b : Book) → words b ≡ front b ++ flat (b .work .spare)
+unfolding words front
+words-front b =
+    ap (λ x. (pos (length (b .levels)) ∷ pos (b .opener) ∷ pos (length (b .work .used)) ∷ 𝟘 ∷ []) ++ (b .kept ++ (flat (map levelWords (reverse (b .levels)) ++ b .closed) ++ (flat (map flat (b .work .tabs)) ++ x))))
+    (flat-append (map entryWords (reverse (b .work .used))) (b .work .spare))
+    ∙ five (pos (length (b .levels)) ∷ pos (b .opener) ∷ pos (length (b .work .used)) ∷ 𝟘 ∷ []) (b .kept) (flat (map levelWords (reverse (b .levels)) ++ b .closed)) (flat (map flat (b .work .tabs))) (flat (map entryWords (reverse (b .work .used)))) (flat (b .work .spare))
+
+front-cleared : (b : Book) → front (cleared b) ≡ front b
+unfolding front cleared
+front-cleared b = refl
+
+module _ {s : Schema} {a : List ℤ} (f : Fit s a) where
+  used-words : length (flat (map entryWords (reverse (view s a .work .used)))) ≡ length (view s a .work .used) * 10
+  unfolding recordList
+  used-words =
+      let b : Book = view s a in
+      let n : length (map entryWords (reverse (b .work .used))) ≡ length (b .work .used) = simp (length-map, length-reverse) in
+      let t : take (length (b .work .used)) (map entryWords (reverse (b .work .used)) ++ b .work .spare) ≡ map entryWords (reverse (b .work .used)) = take-at (map entryWords (reverse (b .work .used))) (b .work .spare) (length (b .work .used)) n in
+      let l : length (b .work .used) ≤ length (map entryWords (reverse (b .work .used)) ++ b .work .spare) = simp (length-append, length-map, length-reverse) (omega arith) in
+      ap (λ x. length (flat x)) (sym t) ∙ flat-sized 10 (length (b .work .used)) (map entryWords (reverse (b .work .used)) ++ b .work .spare) (records-sized (formed-fit f)) l
+
+  front-length : length (front (view s a)) ≡ 333 + rowsSize (s .tables) + natOf (getD a 2 𝟘) * 10
+  unfolding front levelList workOf
+  front-length =
+      let g : Formed s (view s a) = formed-fit f in
+      simp length-append (omega (arith, g .kept-length, levels-length g, tables-are g .1, used-words, use-is f))
+
+  pub words-cleared : (n : ℕ) → n ≡ 333 + rowsSize (s .tables) + natOf (getD a 2 𝟘) * 10 → words (cleared (view s a)) ≡ take n a ++ replicate (length a - n) 𝟘
+  unfolding cleared workOf areaSize
+  words-cleared n e =
+      let b : Book = view s a in
+      let w : words b ≡ a = words-view s a (f .size) (f .legible-is) in
+      let p : front b ≡ take n a = sym (ap (take n) (sym w ∙ words-front b) ∙ take-at (front b) (flat (b .work .spare)) n (front-length ∙ sym e)) in
+      let m : length (b .work .spare) * 10 ≡ length a - n = omega (arith, f .size, formed-fit f .room, use-is f) in
+      words-front (cleared b) ∙ ap₂ (λ x y. x ++ y) (front-cleared b ∙ p) (flat-zeros 𝟘 10 (length (b .work .spare)) ∙ ap (λ k. replicate k 𝟘) m)
+
+-- ---- the work that a result has
+unfoldable pub workIn : Result → Work
+workIn (go w) = w
+workIn (stop c w) = w
+
+pub undoes-in : {s : Schema} {w : Work} {x : Result} → Fine s w x → Undoes s w (workIn x)
+unfolding workIn
+undoes-in (went p) = p
+undoes-in (stopped h p) = p
+
+-- ---- a refused statement, put back and cleared
+abbrev wip : Tables → List Entry → ℕ → Book → Book
+wip t u n b = record { opener = b .opener; kept = b .kept; levels = b .levels; closed = b .closed; work = record { tabs = t; used = u; spare = zeroRecords n } }
+
+module _ {s : Schema} {a a₁ : List ℤ} (f : Fit s a) (k₁ : Keeps s a a₁) (u : Undoes s (workOf s a) (workOf s a₁)) where
+  pub placed-all : all (placed s) (workOf s a .used) ≡ true → all (placed s) (workOf s a₁ .used) ≡ true
+  placed-all h = ap (all (placed s)) (u .used-is) ∙ all-append (placed s) (u .new) (workOf s a .used) (u .places) h
+
+  module _ {a₂ : List ℤ} (k₂ : Keeps s a₁ a₂) (e : workOf s a₂ ≡ undoTo (length (workOf s a .used)) (workOf s a₁)) where
+    back-is : workOf s a₂ ≡ record { tabs = workOf s a .tabs; used = workOf s a .used; spare = zeroRecords (length (u .new)) ++ workOf s a₁ .spare }
+    back-is = e ∙ put-back-all u
+
+    used-back : workOf s a₂ .used ≡ workOf s a .used
+    used-back = ap (λ (w : Work). w .used) back-is
+
+    spare-back : length (workOf s a₂ .spare) ≡ length (workOf s a .spare)
+    unfolding workOf
+    spare-back = omega (arith, formed-fit (k₂ .fit) .room, formed-fit f .room, ap length used-back)
+
+    pub cleared-back : cleared (view s a₂) ≡ cleared (view s a)
+    unfolding cleared workOf
+    cleared-back =
+        ap cleared (k₂ .rest ∙ ap (withWork (workOf s a₂)) (k₁ .rest))
+        ∙ ap₂ (λ t x. wip t x (length (workOf s a₂ .spare)) (view s a)) (ap (λ (w : Work). w .tabs) back-is) used-back
+        ∙ ap (λ n. wip (workOf s a .tabs) (workOf s a .used) n (view s a)) spare-back

@@ -1,0 +1,13 @@
+pub mod Tests
+pub mod Shapes
+pub mod Books
+pub mod Counts
+pub mod Undo
+pub mod Views
+pub mod Offsets
+pub mod JournalWords
+pub mod RoundTrip
+pub mod RowWords
+pub mod UndoWords
+pub mod ClearWords
+pub mod Bits

@@ -1,0 +1,30 @@
+use mathlib.Core.Path.{_≡_, refl, sym, ap, _∙_}
+use mathlib.Core.Bool.{Bool, true, false}
+use Prim.Native.Nat.{ℕ, _+_, _*_, _≤_, _<_}
+use native.Mathlib.Omega.{arith}
+use borrow.Author.Tests.{not-true, not-false, lt-leb, le-leb}
+use lib.ListN.{length}
+use Rattle.schema.specs.Fields
+use Rattle.schema.proofs.FieldLaws.{read-on-delete}
+use borrow.Author.Needs.{needs}
+use Rattle.fields.proofs.on_delete.Statement.{statement}
+use Rattle.fields.proofs.on_delete.Tie as tie
+use Rattle.fields.proofs.on_delete.Reads as reads
+use Rattle.fields.proofs.on_delete.Lts as lts
+use Rattle.fields.proofs.action_of.Reads as action-of-reads
+use Rattle.fields.proofs.key_byte.Reads as key-byte-reads
+
+-- src/lib.rt:151:15
+key-byte-requires : tie.Need-key-byte-requires
+key-byte-requires c κs = search needs
+
+-- src/lib.rt:151:5
+action-of-requires : tie.Need-action-of-requires
+action-of-requires c κs = search needs
+
+-- src/lib.rt:147:1
+returns : tie.Need-returns
+returns c = read-on-delete (c .before .before .before .args .bytes .now) (c .before .before .before .pre .0) (c .before .before .before .args .k) (c .before .before .before .pre .1) (c .action-of .ensures ∙ ap Fields.actionFrom (c .before .key-byte .ensures .0))
+
+pub on-delete-spec : {M : Type 1} → statement M
+on-delete-spec = tie.close (tie.spec key-byte-requires action-of-requires returns)

@@ -1,0 +1,220 @@
+// Fields of schema bytes that break no rule of refusal 1, as the schema that the bytes are has them.
+ghost use mathlib.Core.Path.{_≡_};
+ghost use mathlib.Core.Bool.{Bool, true, false};
+ghost use Prim.Native.Nat.{ℕ, _+_, _*_, _≤_, _<_};
+ghost use lib.IntN.{ℤ, pos};
+ghost use lib.Dec.{eqb};
+ghost use lib.ListN.{length, getD};
+ghost use Rattle.schema.specs.Bounds.{Within};
+ghost use Rattle.schema.specs.Records.{tableOf, keyOf};
+ghost use Rattle.schema.specs.Bytes;
+ghost use Rattle.schema.specs.Fields;
+ghost use Rattle.schema.specs.Fields.{schemaOf};
+ghost use Rattle.schema.specs.Sizes.{tableSize, tableOffset, areaSize};
+ghost use Rattle.schema.specs.Check.{checkSchema};
+use schema::Action;
+use schema::SchemaAnswer;
+
+// The number of tables.
+pub fn table_count(bytes: &[u8]) -> usize
+    requires { ⌜ checkSchema (now bytes) ≡ SchemaAnswer.Accepted ⌝ }
+    ensures { λ r. ⌜ (r ≡ length (schemaOf (now (bytes .entry)) .tables)) × Within 1 16 r ⌝ }
+{
+    numbers::half_at(bytes, 4)
+}
+
+// The number of foreign keys.
+pub fn key_count(bytes: &[u8]) -> usize
+    requires { ⌜ checkSchema (now bytes) ≡ SchemaAnswer.Accepted ⌝ }
+    ensures { λ r. ⌜ (r ≡ length (schemaOf (now (bytes .entry)) .keys)) × (r ≤ 32) ⌝ }
+{
+    numbers::half_at(bytes, 6)
+}
+
+// The journal room, in records.
+pub fn room(bytes: &[u8]) -> usize
+    requires { ⌜ checkSchema (now bytes) ≡ SchemaAnswer.Accepted ⌝ }
+    ensures { λ r. ⌜ (r ≡ schemaOf (now (bytes .entry)) .room) × Within 1 4096 r ⌝ }
+{
+    numbers::half_at(bytes, 12)
+}
+
+// ---- a table
+
+// Byte i of the record of table t.
+fn table_byte(bytes: &[u8], t: usize, i: usize) -> usize
+    requires { ⌜ (checkSchema (now bytes) ≡ SchemaAnswer.Accepted) × ((t < length (schemaOf (now bytes) .tables)) × (i < 80)) ⌝ }
+    ensures { λ r. ⌜ (r ≡ Bytes.byte (now (bytes .entry)) (Fields.tableStart t + i)) × (r < 256) ⌝ }
+{
+    numbers::byte_at(bytes, 16 + 80 * t + i)
+}
+
+// The rows of table t.
+pub fn rows(bytes: &[u8], t: usize) -> usize
+    requires { ⌜ (checkSchema (now bytes) ≡ SchemaAnswer.Accepted) × (t < length (schemaOf (now bytes) .tables)) ⌝ }
+    ensures { λ r. ⌜ (r ≡ tableOf (schemaOf (now (bytes .entry))) t .rows) × Within 1 1024 r ⌝ }
+{
+    numbers::half_at(bytes, 16 + 80 * t)
+}
+
+// The columns of table t.
+pub fn columns(bytes: &[u8], t: usize) -> usize
+    requires { ⌜ (checkSchema (now bytes) ≡ SchemaAnswer.Accepted) × (t < length (schemaOf (now bytes) .tables)) ⌝ }
+    ensures { λ r. ⌜ (r ≡ tableOf (schemaOf (now (bytes .entry))) t .columns) × Within 1 8 r ⌝ }
+{
+    table_byte(bytes, t, 2)
+}
+
+// The NOT NULL mask of table t.
+pub fn not_null(bytes: &[u8], t: usize) -> usize
+    requires { ⌜ (checkSchema (now bytes) ≡ SchemaAnswer.Accepted) × (t < length (schemaOf (now bytes) .tables)) ⌝ }
+    ensures { λ r. ⌜ (r ≡ tableOf (schemaOf (now (bytes .entry))) t .notNull) × (r < 256) ⌝ }
+{
+    table_byte(bytes, t, 3)
+}
+
+// Unique-key mask i of table t, 0 where the slot is unused.
+pub fn unique_mask(bytes: &[u8], t: usize, i: usize) -> usize
+    requires { ⌜ (checkSchema (now bytes) ≡ SchemaAnswer.Accepted) × ((t < length (schemaOf (now bytes) .tables)) × (i < 4)) ⌝ }
+    ensures { λ r. ⌜ (r ≡ getD (tableOf (schemaOf (now (bytes .entry))) t .uniques) i 0) × (r < 256) ⌝ }
+{
+    table_byte(bytes, t, 4 + i)
+}
+
+// The default-is-NULL mask of table t.
+pub fn default_null(bytes: &[u8], t: usize) -> usize
+    requires { ⌜ (checkSchema (now bytes) ≡ SchemaAnswer.Accepted) × (t < length (schemaOf (now bytes) .tables)) ⌝ }
+    ensures { λ r. ⌜ (r ≡ tableOf (schemaOf (now (bytes .entry))) t .defaultNull) × (r < 256) ⌝ }
+{
+    table_byte(bytes, t, 8)
+}
+
+// The default of column c of table t.
+pub fn default_value(bytes: &[u8], t: usize, c: usize) -> i64
+    requires { ⌜ (checkSchema (now bytes) ≡ SchemaAnswer.Accepted) × ((t < length (schemaOf (now bytes) .tables)) × (c < 8)) ⌝ }
+    ensures { λ r. ⌜ r ≡ getD (tableOf (schemaOf (now (bytes .entry))) t .defaults) c (pos 0) ⌝ }
+{
+    numbers::signed_at(bytes, 16 + 80 * t + 16 + 8 * c)
+}
+
+// ---- a foreign key
+
+// Byte i of the record of foreign key k.
+fn key_byte(bytes: &[u8], k: usize, i: usize) -> usize
+    requires { ⌜ (checkSchema (now bytes) ≡ SchemaAnswer.Accepted) × ((k < length (schemaOf (now bytes) .keys)) × (i < 16)) ⌝ }
+    ensures { λ r. ⌜ (r ≡ Bytes.byte (now (bytes .entry)) (Fields.keyStart (now (bytes .entry)) k + i)) × (r < 256) ⌝ }
+{
+    numbers::byte_at(bytes, numbers::key_start(bytes, k) + i)
+}
+
+// The child table of foreign key k.
+pub fn child(bytes: &[u8], k: usize) -> usize
+    requires { ⌜ (checkSchema (now bytes) ≡ SchemaAnswer.Accepted) × (k < length (schemaOf (now bytes) .keys)) ⌝ }
+    ensures { λ r. ⌜ (r ≡ keyOf (schemaOf (now (bytes .entry))) k .child) × (r < length (schemaOf (now (bytes .entry)) .tables)) ⌝ }
+{
+    key_byte(bytes, k, 0)
+}
+
+// The parent table of foreign key k.
+pub fn parent(bytes: &[u8], k: usize) -> usize
+    requires { ⌜ (checkSchema (now bytes) ≡ SchemaAnswer.Accepted) × (k < length (schemaOf (now bytes) .keys)) ⌝ }
+    ensures { λ r. ⌜ (r ≡ keyOf (schemaOf (now (bytes .entry))) k .parent) × (r < length (schemaOf (now (bytes .entry)) .tables)) ⌝ }
+{
+    key_byte(bytes, k, 1)
+}
+
+// Whether foreign key k is deferred.
+pub fn is_deferred(bytes: &[u8], k: usize) -> bool
+    requires { ⌜ (checkSchema (now bytes) ≡ SchemaAnswer.Accepted) × (k < length (schemaOf (now bytes) .keys)) ⌝ }
+    ensures { λ r. ⌜ r ≡ keyOf (schemaOf (now (bytes .entry))) k .deferred ⌝ }
+{
+    key_byte(bytes, k, 2) == 1
+}
+
+// The action of a code: 0 NO ACTION, 1 RESTRICT, 2 SET NULL, 3 SET DEFAULT, 4 CASCADE; the check refuses the others.
+pub fn action_of(code: usize) -> Action
+    ensures { λ r. ⌜ r ≡ Fields.actionFrom code ⌝ }
+{
+    match code {
+        1 => Action::Restrict,
+        2 => Action::SetNull,
+        3 => Action::SetDefault,
+        4 => Action::Cascade,
+        _ => Action::NoAction,
+    }
+}
+
+// The on-delete action of foreign key k.
+pub fn on_delete(bytes: &[u8], k: usize) -> Action
+    requires { ⌜ (checkSchema (now bytes) ≡ SchemaAnswer.Accepted) × (k < length (schemaOf (now bytes) .keys)) ⌝ }
+    ensures { λ r. ⌜ r ≡ keyOf (schemaOf (now (bytes .entry))) k .onDelete ⌝ }
+{
+    action_of(key_byte(bytes, k, 3))
+}
+
+// The on-update action of foreign key k.
+pub fn on_update(bytes: &[u8], k: usize) -> Action
+    requires { ⌜ (checkSchema (now bytes) ≡ SchemaAnswer.Accepted) × (k < length (schemaOf (now bytes) .keys)) ⌝ }
+    ensures { λ r. ⌜ r ≡ keyOf (schemaOf (now (bytes .entry))) k .onUpdate ⌝ }
+{
+    action_of(key_byte(bytes, k, 4))
+}
+
+// The number of columns of foreign key k.
+pub fn width(bytes: &[u8], k: usize) -> usize
+    requires { ⌜ (checkSchema (now bytes) ≡ SchemaAnswer.Accepted) × (k < length (schemaOf (now bytes) .keys)) ⌝ }
+    ensures { λ r. ⌜ (r ≡ length (keyOf (schemaOf (now (bytes .entry))) k .childColumns)) × Within 1 4 r ⌝ }
+{
+    key_byte(bytes, k, 5)
+}
+
+// Child column i of foreign key k.
+pub fn child_column(bytes: &[u8], k: usize, i: usize) -> usize
+    requires { ⌜ (checkSchema (now bytes) ≡ SchemaAnswer.Accepted) × ((k < length (schemaOf (now bytes) .keys)) × (i < length (keyOf (schemaOf (now bytes)) k .childColumns))) ⌝ }
+    ensures { λ r. ⌜ (r ≡ getD (keyOf (schemaOf (now (bytes .entry))) k .childColumns) i 0) × (r < tableOf (schemaOf (now (bytes .entry))) (keyOf (schemaOf (now (bytes .entry))) k .child) .columns) ⌝ }
+{
+    key_byte(bytes, k, 6 + i)
+}
+
+// Parent column i of foreign key k.
+pub fn parent_column(bytes: &[u8], k: usize, i: usize) -> usize
+    requires { ⌜ (checkSchema (now bytes) ≡ SchemaAnswer.Accepted) × ((k < length (schemaOf (now bytes) .keys)) × (i < length (keyOf (schemaOf (now bytes)) k .childColumns))) ⌝ }
+    ensures { λ r. ⌜ (r ≡ getD (keyOf (schemaOf (now (bytes .entry))) k .parentColumns) i 0) × (r < tableOf (schemaOf (now (bytes .entry))) (keyOf (schemaOf (now (bytes .entry))) k .parent) .columns) ⌝ }
+{
+    key_byte(bytes, k, 10 + i)
+}
+
+// ---- the area
+
+// The words of table t's rows.
+pub fn table_words(bytes: &[u8], t: usize) -> usize
+    requires { ⌜ (checkSchema (now bytes) ≡ SchemaAnswer.Accepted) × (t < length (schemaOf (now bytes) .tables)) ⌝ }
+    ensures { λ r. ⌜ (r ≡ tableSize (tableOf (schemaOf (now (bytes .entry))) t)) × (r ≤ 9216) ⌝ }
+{
+    let n = rows(bytes, t);
+    let m = columns(bytes, t);
+    n * (m + 1)
+}
+
+// The first word of table t's rows; of the journal, where t is the number of tables.
+pub fn start_of(bytes: &[u8], t: usize) -> usize
+    requires { ⌜ (checkSchema (now bytes) ≡ SchemaAnswer.Accepted) × (t ≤ length (schemaOf (now bytes) .tables)) ⌝ }
+    ensures { λ r. ⌜ (r ≡ tableOffset (schemaOf (now (bytes .entry))) t) × (r ≤ 333 + 9216 * t) ⌝ }
+{
+    let mut at = 333;
+    let mut i = 0;
+    while i < t {
+        at += table_words(bytes, i);
+        i += 1;
+    }
+    at
+}
+
+// The length of the area.
+pub fn area_length(bytes: &[u8]) -> usize
+    requires { ⌜ checkSchema (now bytes) ≡ SchemaAnswer.Accepted ⌝ }
+    ensures { λ r. ⌜ (r ≡ areaSize (schemaOf (now (bytes .entry)))) × (r < 188750) ⌝ }
+{
+    let n = table_count(bytes);
+    start_of(bytes, n) + room(bytes) * 10
+}

@@ -1,0 +1,59 @@
+-- In a book of the schema's shape the counted orphans are within range: refusal 19 is for Damaged areas only.
+-- Assumes nothing.
+use mathlib.Core.Path.{_≡_, refl, sym, _∙_, ap, ap₂}
+use mathlib.Core.Bool.{Bool, true, false, _&&_}
+use mathlib.Core.List.{List, [], _∷_, _++_, map}
+use Prim.Native.Nat.{ℕ, zero, suc, _+_, _-_, _≤_, _<_}
+use native.Mathlib.Omega.{arith}
+use lib.Dec.{leb, le→leb}
+use lib.IntN.{ℤ, pos}
+use lib.ListN.{length, getD, replicate, length-map, length-replicate}
+use Rattle.bridge.proofs.Shapes.{Shaped, widths, shapeOf}
+use Rattle.bridge.proofs.Tests.{and-both, passes}
+use Rattle.rules.specs.Keys.{orphan, orphans, counts}
+use Rattle.rules.specs.Lists.{𝟘, count}
+use Rattle.rules.specs.Rows.{Tables}
+use Rattle.rules.specs.State.{keptInRange}
+use Rattle.rules.specs.Values.{inRange, sameValue}
+use Rattle.schema.specs.Records.{Schema, Table, noTable, ForeignKey, tableOf}
+
+one : {A : Type 0} (p : A → Bool) (b : Bool) (xs : List A) → count p xs ≤ length xs → elim b [ true ↦ suc (count p xs) | false ↦ count p xs ] ≤ suc (length xs)
+one p true xs h = omega arith
+one p false xs h = omega arith
+
+count-bound : {A : Type 0} (p : A → Bool) (xs : List A) → count p xs ≤ length xs
+unfolding count
+count-bound p [] = omega arith
+count-bound p (x ∷ xs) = one p (p x) xs (count-bound p xs)
+
+rows-at : (ts : List Table) (tabs : Tables) → widths tabs ≡ map shapeOf ts → (t : ℕ) → length (getD tabs t []) ≤ getD ts t noTable .rows
+unfolding shapeOf
+rows-at [] [] h t = omega arith
+rows-at [] (x ∷ tabs) h t = absurd (let z : _≡_ {A = ℕ} 0 1 = cc in omega arith)
+rows-at (x ∷ ts) [] h t = omega arith
+rows-at (x ∷ ts) (rows ∷ tabs) h zero =
+    let e : map length rows ≡ shapeOf x = cc in
+    let n : length rows ≡ x .rows = sym (length-map rows length) ∙ ap length e ∙ length-replicate (x .rows) (suc (x .columns)) in
+    omega arith
+rows-at (x ∷ ts) (rows ∷ tabs) h (suc t) = let q : widths tabs ≡ map shapeOf ts = cc in rows-at ts tabs q t
+
+module _ (s : Schema) (tabs : Tables) (h : Shaped s tabs) where
+  one-in-range : (k : ForeignKey) → inRange (tableOf s (k .child) .rows) (pos (orphans tabs k)) ≡ true
+  unfolding inRange orphans Shaped
+  one-in-range k =
+      passes (leb (orphans tabs k) (tableOf s (k .child) .rows))
+      (le→leb (orphans tabs k) (tableOf s (k .child) .rows) (omega (arith, count-bound (orphan k (getD tabs (k .parent) [])) (getD tabs (k .child) []), rows-at (s .tables) tabs h (k .child))))
+
+  none-in-range : (n : ℕ) → keptInRange s [] (replicate n 𝟘) ≡ true
+  unfolding keptInRange sameValue
+  none-in-range zero = refl
+  none-in-range (suc n) = none-in-range n
+
+  list-in-range : (ks : List ForeignKey) (n : ℕ) → keptInRange s ks (map (λ k. pos (orphans tabs k)) ks ++ replicate n 𝟘) ≡ true
+  unfolding keptInRange
+  list-in-range [] n = none-in-range n
+  list-in-range (k ∷ ks) n = and-both (one-in-range k) (list-in-range ks n)
+
+  pub counts-in-range : keptInRange s (s .keys) (counts s tabs) ≡ true
+  unfolding counts
+  counts-in-range = list-in-range (s .keys) (32 - length (map (λ k. pos (orphans tabs k)) (s .keys)))

@@ -1,0 +1,1 @@
+// Nothing runs here: the crate holds the theorems on the rules.

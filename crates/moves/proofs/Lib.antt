@@ -1,0 +1,4 @@
+pub mod ExceptLaws
+pub mod Stranded
+pub mod Moved
+pub mod Telescope

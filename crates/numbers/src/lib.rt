@@ -1,0 +1,79 @@
+// Numbers in a slice of bytes, little-endian; bits of a mask; where a foreign key's record begins.
+ghost use mathlib.Core.Path.{_≡_};
+ghost use Prim.Native.Nat.{_+_, _*_, _≤_, _<_};
+ghost use lib.ListN.{length};
+ghost use mir.Syntax.{w64};
+ghost use mir.Val.{toZ};
+ghost use Rattle.schema.specs.Bytes.{byte, half, word, signedWord, bit};
+ghost use Rattle.schema.specs.Fields.{keyStart};
+
+pub fn wide(x: u8) -> usize
+    ensures { λ r. ⌜ (r ≡ x) × (r < 256) ⌝ }
+{
+    x as usize
+}
+
+// The byte at i.
+pub fn byte_at(s: &[u8], i: usize) -> usize
+    requires { ⌜ i < length (now s) ⌝ }
+    ensures { λ r. ⌜ (r ≡ byte (now (s .entry)) i) × (r < 256) ⌝ }
+{
+    wide(s[i])
+}
+
+// The unsigned 16-bit number whose two bytes start at i.
+pub fn half_at(s: &[u8], i: usize) -> usize
+    requires { ⌜ i + 2 ≤ length (now s) ⌝ }
+    ensures { λ r. ⌜ (r ≡ half (now (s .entry)) i) × (r < 65536) ⌝ }
+{
+    wide(s[i]) + 256 * wide(s[i + 1])
+}
+
+// The unsigned 64-bit number whose eight bytes start at i.
+pub fn word_at(s: &[u8], i: usize) -> usize
+    requires { ⌜ i + 8 ≤ length (now s) ⌝ }
+    ensures { λ r. ⌜ r ≡ word (now (s .entry)) i ⌝ }
+{
+    half_at(s, i)
+        + 65536 * half_at(s, i + 2)
+        + 4294967296 * half_at(s, i + 4)
+        + 281474976710656 * half_at(s, i + 6)
+}
+
+// The signed number whose 64 bits in two's complement are those of u.
+pub fn signed(u: usize) -> i64
+    ensures { λ r. ⌜ r ≡ toZ w64 u ⌝ }
+{
+    if u < 9223372036854775808 {
+        u as i64
+    } else {
+        -1 - ((18446744073709551615 - u) as i64)
+    }
+}
+
+// The signed 64-bit number whose eight bytes start at i.
+pub fn signed_at(s: &[u8], i: usize) -> i64
+    requires { ⌜ i + 8 ≤ length (now s) ⌝ }
+    ensures { λ r. ⌜ r ≡ signedWord (now (s .entry)) i ⌝ }
+{
+    signed(word_at(s, i))
+}
+
+// Bit i of a mask.
+pub fn is_bit(m: usize, i: usize) -> bool
+    requires { ⌜ m < 256 ⌝ }
+    ensures { λ r. ⌜ r ≡ bit i m ⌝ }
+{
+    if 64 <= i {
+        return false;
+    }
+    (m >> i) % 2 == 1
+}
+
+// Where the record of foreign key k begins.
+pub fn key_start(s: &[u8], k: usize) -> usize
+    requires { ⌜ (16 ≤ length (now s)) × (keyStart (now s) k + 16 ≤ length (now s)) ⌝ }
+    ensures { λ r. ⌜ r ≡ keyStart (now (s .entry)) k ⌝ }
+{
+    16 + 80 * half_at(s, 4) + 16 * k
+}

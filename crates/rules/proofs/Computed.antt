@@ -1,0 +1,57 @@
+-- What calls on a fresh area come to, computed by the rules.
+-- Assumes nothing.
+use mathlib.Core.Bool.{Bool}
+use mathlib.Core.List.{List, [], _∷_, map}
+use Prim.Native.Nat.{ℕ}
+use lib.Count.{ones, onesIn}
+use lib.IntN.{ℤ}
+use Rattle.schema.specs.Bytes.{bit}
+use Rattle.schema.specs.Check.{startsWith, headerRest, headerRules, maskRule, sizeRules, tableRest, tableRules, columnRule, newColumn, columnsRule, codeRules, keyRest, keyRules, wellFormed, inMask, maskIs, uniqueIs, parentRules, checkSchema}
+use Rattle.schema.specs.Fields.{tableFrom, actionFrom, keyFrom, schemaOf}
+use Rattle.schema.specs.Ranges.{allFrom, anyFrom, andAll, every, listFrom, all}
+use Rattle.schema.specs.Sizes.{tableSize, rowsSize, tableOffset, areaSize}
+use Rattle.rules.specs.Area.{levelWords, entryWords, words, levelOf, entryOf, tablesOf, levelPart, rowPart, recordPart, view, naturalHead, legible, ensure, areaStep, freshWords}
+use Rattle.rules.specs.Book.{undoOne, undoAll, undo, undoTo, emptied, cleared, push, close, backTo, back, ended, firstKept, abort, blank, fresh}
+use Rattle.rules.specs.Calls.{formedIf, parsed, parse, inTable, rowFits, levelNumber, allowed}
+use Rattle.rules.specs.Change.{then, given, notNullBroken, twice, uniqueBroken, admits, admitted, flag, setCell, fillsNull, filler, refilled, childImage, cascaded, actionOf, taken, rowTurn, children, keyTurn, actions, change}
+use Rattle.rules.specs.Engine.{underSchema, makeFresh, callOn}
+use Rattle.rules.specs.Keys.{sameCell, sameKey, fullKey, maskColumnsFrom, maskColumns, mapsTo, due, serves, orphan, orphans, counts, takes, sameParentKey, fires}
+use Rattle.rules.specs.Lists.{any, count, flat, chunks, one, upFrom, sum, less, plus}
+use Rattle.rules.specs.Refusals.{number, shown, accepted, failing}
+use Rattle.rules.specs.Rows.{rowAt, putRow, overwrite, image, deletedImage, liveState, live, nullAt, valueAt, maskOf, held, liveImage, normal}
+use Rattle.rules.specs.State.{inTransaction, openerFits, keptInRange, savedInRange, usesRise, placed, undamaged, levelOpen}
+use Rattle.rules.specs.Statement.{check, demand, immediateZero, enforced, journalAfter, afterStatement, settle, conclude, statement, rowStatement}
+use Rattle.rules.specs.Step.{opened, openerOf, committed, released, rolled, act, step, runAll}
+use Rattle.rules.specs.Strike.{place, mark, marks, strike, callsOf}
+use Rattle.rules.specs.Values.{sameValue, sameValues, allZero, natOf, natural, inRange}
+use Rattle.rules.specs.Step.{Logged}
+use Rattle.rules.specs.Engine.{runOn}
+
+-- code, rows changed, net, of each call
+abbrev pub Shown : Type 0
+Shown = List (ℕ × ℕ × ℤ)
+
+unfoldable pub show : List Logged → Shown
+unfolding shown number
+show [] = []
+show (x ∷ xs) = shown (x .1) ∷ show xs
+
+-- the calls with their answers and the last area
+unfoldable pub ran : List ℕ → List (List ℤ) → List Logged × List ℤ
+unfolding bit startsWith headerRest headerRules maskRule sizeRules tableRest tableRules columnRule newColumn columnsRule codeRules keyRest keyRules wellFormed inMask maskIs uniqueIs parentRules checkSchema tableFrom actionFrom keyFrom schemaOf allFrom anyFrom andAll every listFrom all tableSize rowsSize tableOffset areaSize levelWords entryWords words levelOf entryOf tablesOf levelPart rowPart recordPart view naturalHead legible ensure areaStep freshWords undoOne undoAll undo undoTo emptied cleared push close backTo back ended firstKept abort blank fresh formedIf parsed parse inTable rowFits levelNumber allowed then given notNullBroken twice uniqueBroken admits admitted flag setCell fillsNull filler refilled childImage cascaded actionOf taken rowTurn children keyTurn actions change underSchema makeFresh callOn sameCell sameKey fullKey maskColumnsFrom maskColumns mapsTo due serves orphan orphans counts takes sameParentKey fires any count flat chunks one upFrom sum less plus number shown accepted failing rowAt putRow overwrite image deletedImage liveState live nullAt valueAt maskOf held liveImage normal inTransaction openerFits keptInRange savedInRange usesRise placed undamaged levelOpen check demand immediateZero enforced journalAfter afterStatement settle conclude statement rowStatement opened openerOf committed released rolled act step runAll place mark marks strike callsOf sameValue sameValues allZero natOf natural inRange ones onesIn
+ran bs cs = runOn bs cs (freshWords (schemaOf bs))
+
+-- the answers
+unfoldable pub answers : List ℕ → List (List ℤ) → Shown
+unfolding ran show
+answers bs cs = show (ran bs cs .0)
+
+-- two lists of calls end in areas equal in every word
+unfoldable pub sameArea : List ℕ → List (List ℤ) → List (List ℤ) → Bool
+unfolding ran sameValues sameValue
+sameArea bs cs ds = sameValues (ran bs cs .1) (ran bs ds .1)
+
+-- the calls that are left after striking out
+unfoldable pub callsLeft : List ℕ → List (List ℤ) → List (List ℤ)
+unfolding ran strike marks mark place callsOf parse parsed formedIf natural natOf allZero all sameValue
+callsLeft bs cs = callsOf (strike (ran bs cs .0) .line)

@@ -1,0 +1,89 @@
+-- More worked examples: what students write, undo, striking out.
+-- Assumes nothing.
+use mathlib.Core.Path.{_≡_, refl}
+use mathlib.Core.Bool.{true}
+use mathlib.Core.List.{List, [], _∷_, _++_, map}
+use Prim.Native.Nat.{ℕ}
+use lib.IntN.{ℤ, pos, negsuc}
+use lib.ListN.{take, replicate}
+use Rattle.rules.proofs.Inputs.{schemaS, selfReferring, twoKeys, pairKey, insert, update, delete, begin, savepoint, release, rollbackTo, rollback, commit, selves, family}
+use Rattle.rules.proofs.Computed.{answers, sameArea, callsLeft}
+use Rattle.rules.proofs.PaperCases.{Case}
+
+abbrev one : ℕ × ℕ × ℤ
+one = (0, 1, pos 0)
+
+abbrev none : ℕ × ℕ × ℤ
+none = (0, 0, pos 0)
+
+unfoldable pub examples : List Case
+unfolding schemaS selfReferring twoKeys pairKey family selves insert update delete begin savepoint release rollbackTo rollback commit
+examples =
+    -- "CASCADE as key 0 and RESTRICT as key 1 on one child: accepted; numbers swapped: 18": RESTRICT is not held until the end
+    record { schema = twoKeys 4 1; sent = family; answered = one ∷ one ∷ (0, 2, pos 0) ∷ [] }
+    ∷ record { schema = twoKeys 1 4; sent = family; answered = one ∷ one ∷ (18, 0, pos 0) ∷ [] }
+    ∷ record { schema = twoKeys 2 0; sent = family; answered = one ∷ one ∷ (0, 2, pos 0) ∷ [] }
+    ∷ record { schema = twoKeys 0 0; sent = family; answered = one ∷ one ∷ (20, 0, pos 0) ∷ [] }
+    -- no action after an update that leaves the key equal
+    ∷ record {
+      schema = twoKeys 1 1;
+      sent = take 2 family ++ (update 0 0 0 (pos 7 ∷ []) ∷ update 0 0 0 (pos 8 ∷ []) ∷ []);
+      answered = one ∷ one ∷ one ∷ (18, 0, pos 0) ∷ [];
+    }
+    -- a composite key with one NULL is no orphan
+    ∷ record {
+      schema = pairKey;
+      sent = insert 1 0 2 (pos 7 ∷ []) ∷ insert 1 1 0 (pos 7 ∷ pos 8 ∷ []) ∷ [];
+      answered = one ∷ (20, 0, pos 0) ∷ [];
+    }
+    -- a unique key with NULL equals none
+    ∷ record {
+      schema = pairKey;
+      sent = insert 0 0 2 (pos 7 ∷ []) ∷ insert 0 1 2 (pos 7 ∷ []) ∷ update 0 0 0 (pos 7 ∷ pos 8 ∷ []) ∷ update 0 1 0 (pos 7 ∷ pos 8 ∷ []) ∷ [];
+      answered = one ∷ one ∷ one ∷ (17, 0, pos 0) ∷ [];
+    }
+    -- a rollback to a level restores its kept numbers
+    ∷ record {
+      schema = schemaS;
+      sent = savepoint ∷ insert 1 0 0 (pos 1 ∷ pos 5 ∷ []) ∷ release 1 ∷ rollbackTo 1 ∷ release 1 ∷ [];
+      answered = none ∷ (0, 1, pos 1) ∷ (21, 0, pos 0) ∷ (0, 1, negsuc 0) ∷ none ∷ [];
+    }
+    -- "Nine levels open; the tenth 13."
+    ∷ record { schema = schemaS; sent = replicate 10 savepoint; answered = replicate 9 none ++ ((13, 0, pos 0) ∷ []) }
+    ∷ []
+
+pub examples-hold : map (λ (c : Case). answers (c .schema) (c .sent)) examples ≡ map (λ (c : Case). c .answered) examples
+unfolding answers examples
+examples-hold = refl
+
+-- a schema, calls, and calls that end in the same area
+pub record Undone : Type 0 where
+  pub schema : List ℕ
+  pub sent : List (List ℤ)
+  pub left : List (List ℤ)
+
+unfoldable pub undoneExamples : List Undone
+unfolding schemaS insert update delete begin savepoint release rollbackTo rollback commit
+undoneExamples =
+    -- the journal is undone newest first
+    record {
+      schema = schemaS;
+      sent = insert 0 0 0 (pos 1 ∷ []) ∷ begin ∷ update 0 0 0 (pos 2 ∷ []) ∷ update 0 0 0 (pos 3 ∷ []) ∷ rollback ∷ [];
+      left = insert 0 0 0 (pos 1 ∷ []) ∷ [];
+    }
+    -- rollback to level 2 keeps what came before it
+    ∷ record {
+      schema = schemaS;
+      sent = begin ∷ insert 0 0 0 (pos 1 ∷ []) ∷ savepoint ∷ delete 0 0 ∷ savepoint ∷ insert 0 1 0 (pos 4 ∷ []) ∷ rollbackTo 2 ∷ commit ∷ [];
+      left = begin ∷ insert 0 0 0 (pos 1 ∷ []) ∷ savepoint ∷ commit ∷ [];
+    }
+    ∷ []
+
+-- what is left after striking out is those calls, and they end in the same area
+pub undone-struck : map (λ (u : Undone). callsLeft (u .schema) (u .sent)) undoneExamples ≡ map (λ (u : Undone). u .left) undoneExamples
+unfolding callsLeft undoneExamples
+undone-struck = refl
+
+pub undone-same : map (λ (u : Undone). sameArea (u .schema) (u .sent) (u .left)) undoneExamples ≡ true ∷ true ∷ []
+unfolding sameArea undoneExamples
+undone-same = refl

@@ -1,0 +1,134 @@
+-- Schema bytes and calls of the examples.
+-- Assumes nothing.
+use mathlib.Core.List.{List, [], _∷_, _++_}
+use Prim.Native.Nat.{ℕ, zero, suc, _+_, _*_, _/_, _%_}
+use lib.IntN.{ℤ, pos}
+use lib.ListN.{length, replicate}
+use Rattle.rules.specs.Lists.{padded}
+
+-- ---- schema bytes
+
+unfoldable pub half : ℕ → List ℕ
+half n = n % 256 ∷ n / 256 ∷ []
+
+-- a table without defaults: rows, columns, NOT NULL mask, one unique-key mask
+unfoldable pub tableBytes : ℕ → ℕ → ℕ → ℕ → List ℕ
+unfolding half
+tableBytes rows columns notNull unique = half rows ++ (columns ∷ notNull ∷ unique ∷ replicate 75 0)
+
+-- a foreign key of one column: child table and column, parent table and column, deferred, on delete, on update
+unfoldable pub keyBytes : ℕ → ℕ → ℕ → ℕ → ℕ → ℕ → ℕ → List ℕ
+keyBytes child c parent p deferred onDelete onUpdate =
+    child ∷ parent ∷ deferred ∷ onDelete ∷ onUpdate ∷ 1 ∷ c ∷ 255 ∷ 255 ∷ 255 ∷ p ∷ 255 ∷ 255 ∷ 255 ∷ 0 ∷ 0 ∷ []
+
+-- tables, foreign keys, journal room
+unfoldable pub schemaBytes : ℕ → ℕ → ℕ → List ℕ → List ℕ
+unfolding half
+schemaBytes tables keys room records =
+    0x46 ∷ 0x4B ∷ 0x42 ∷ 0x31 ∷ half tables
+    ++ half keys
+    ++ half 16
+    ++ half (16 + 80 * tables)
+    ++ half room
+    ++ half (16 + 80 * tables + 16 * keys)
+    ++ records
+
+-- "Schema S: table 0 with 4 rows, 1 column, table 1 with 4 rows, 2 columns; both NOT NULL mask 1, unique mask 1.
+-- Key 0: child table 1 column 1, parent table 0 column 0, deferred, CASCADE twice. J = 8"
+unfoldable pub schemaS : List ℕ
+unfolding schemaBytes tableBytes keyBytes
+schemaS = schemaBytes 2 1 8 (tableBytes 4 1 1 1 ++ tableBytes 4 2 1 1 ++ keyBytes 1 1 0 0 1 4 4)
+
+-- one self-referring key over so many rows of two columns, with one action and journal room j
+unfoldable pub selfReferring : ℕ → ℕ → ℕ → List ℕ
+unfolding schemaBytes tableBytes keyBytes
+selfReferring action rows j = schemaBytes 1 1 j (tableBytes rows 2 1 1 ++ keyBytes 0 1 0 0 0 action action)
+
+-- two keys from table 1 to table 0, with these actions
+unfoldable pub twoKeys : ℕ → ℕ → List ℕ
+unfolding schemaBytes tableBytes keyBytes
+twoKeys first second = schemaBytes 2 2 8 (tableBytes 2 1 1 1 ++ tableBytes 2 1 0 0 ++ keyBytes 1 0 0 0 0 first first ++ keyBytes 1 0 0 0 0 second second)
+
+-- a key of two columns from table 1 to table 0
+unfoldable pub pairKey : List ℕ
+unfolding schemaBytes tableBytes
+pairKey =
+    schemaBytes 2 1 8
+    (tableBytes 2 2 0 3 ++ tableBytes 2 2 0 0 ++ (1 ∷ 0 ∷ 0 ∷ 0 ∷ 0 ∷ 2 ∷ 0 ∷ 1 ∷ 255 ∷ 255 ∷ 0 ∷ 1 ∷ 255 ∷ 255 ∷ 0 ∷ 0 ∷ []))
+
+-- ---- calls, as twelve words
+
+unfoldable call : ℕ → ℕ → ℕ → ℕ → List ℤ → List ℤ
+call kind a b m vs = padded 12 (pos kind ∷ pos a ∷ pos b ∷ pos m ∷ vs)
+
+unfoldable pub insert : ℕ → ℕ → ℕ → List ℤ → List ℤ
+unfolding call
+insert = call 1
+
+unfoldable pub update : ℕ → ℕ → ℕ → List ℤ → List ℤ
+unfolding call
+update = call 2
+
+unfoldable pub delete : ℕ → ℕ → List ℤ
+unfolding call
+delete t r = call 3 t r 0 []
+
+unfoldable pub begin : List ℤ
+unfolding call
+begin = call 4 0 0 0 []
+
+unfoldable pub savepoint : List ℤ
+unfolding call
+savepoint = call 5 0 0 0 []
+
+unfoldable pub release : ℕ → List ℤ
+unfolding call
+release a = call 6 a 0 0 []
+
+unfoldable pub rollbackTo : ℕ → List ℤ
+unfolding call
+rollbackTo a = call 7 a 0 0 []
+
+unfoldable pub rollback : List ℤ
+unfolding call
+rollback = call 8 0 0 0 []
+
+unfoldable pub commit : List ℤ
+unfolding call
+commit = call 9 0 0 0 []
+
+-- "begin; insert table 1 row 0 (11, 5); commit; insert table 0 row 0 (5); commit; update table 0 row 0 to (6); delete table 0 row 1; delete table 0 row 0"
+unfoldable pub eightCalls : List (List ℤ)
+unfolding begin insert commit update delete
+eightCalls =
+    begin
+    ∷ insert 1 0 0 (pos 11 ∷ pos 5 ∷ [])
+    ∷ commit
+    ∷ insert 0 0 0 (pos 5 ∷ [])
+    ∷ commit
+    ∷ update 0 0 0 (pos 6 ∷ [])
+    ∷ delete 0 1
+    ∷ delete 0 0
+    ∷ []
+
+-- rows i, i + 1, .. (n rows), each referring to the one before it
+unfoldable pub links : ℕ → ℕ → List (List ℤ)
+unfolding insert
+links i zero = []
+links i (suc n) = insert 0 i 0 (pos (suc i) ∷ pos i ∷ []) ∷ links (suc i) n
+
+-- a chain of n + 1 rows, and its root deleted
+unfoldable pub chain : ℕ → List (List ℤ)
+unfolding insert delete links
+chain n = insert 0 0 2 (pos 1 ∷ pos 0 ∷ []) ∷ links 1 n ++ (delete 0 0 ∷ [])
+
+-- rows i, i + 1, .. (n rows), each referring to itself
+unfoldable pub selves : ℕ → ℕ → List (List ℤ)
+unfolding insert
+selves i zero = []
+selves i (suc n) = insert 0 i 0 (pos i ∷ pos i ∷ []) ∷ selves (suc i) n
+
+-- a parent, its child, and the parent deleted
+unfoldable pub family : List (List ℤ)
+unfolding insert delete
+family = insert 0 0 0 (pos 7 ∷ []) ∷ insert 1 1 0 (pos 7 ∷ []) ∷ delete 0 0 ∷ []

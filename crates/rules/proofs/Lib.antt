@@ -1,0 +1,5 @@
+-- Worked examples: the rules, computed.
+pub mod Inputs
+pub mod Computed
+pub mod PaperCases
+pub mod Examples

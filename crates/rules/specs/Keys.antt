@@ -1,0 +1,71 @@
+-- Keys and orphans.
+-- Assumes nothing.
+use mathlib.Core.Bool.{Bool, true, false, not, _&&_}
+use mathlib.Core.List.{List, [], _∷_, map}
+use Prim.Native.Nat.{ℕ, zero, suc}
+use lib.Dec.{eqb}
+use lib.IntN.{ℤ, pos}
+use lib.ListN.{getD}
+use Rattle.schema.specs.Bytes.{bit}
+use Rattle.schema.specs.Records.{ForeignKey, Schema}
+use Rattle.rules.specs.Lists.{any, count, padded}
+use Rattle.rules.specs.Values.{sameValue}
+use Rattle.rules.specs.Rows.{Row, Tables, live, nullAt, valueAt}
+
+-- column c of row x and column d of row y are equal. "NULL equals nothing."
+unfoldable pub sameCell : Row → Row → ℕ → ℕ → Bool
+sameCell x y c d = sameValue (valueAt x c) (valueAt y d) && (not (nullAt x c) && not (nullAt y d))
+
+-- the key of row x in columns cs and that of row y in columns ds are equal. A key with NULL equals none, not even itself
+unfoldable pub sameKey : List ℕ → List ℕ → Row → Row → Bool
+sameKey [] ds x y = true
+sameKey (c ∷ cs) [] x y = true
+sameKey (c ∷ cs) (d ∷ ds) x y = elim (sameCell x y c d) [ true ↦ sameKey cs ds x y | false ↦ false ]
+
+-- a live row with no NULL in its key
+unfoldable pub fullKey : List ℕ → Row → Bool
+fullKey cs row = live row && sameKey cs cs row row
+
+-- the columns of a mask, from column i on (n columns)
+unfoldable pub maskColumnsFrom : ℕ → ℕ → ℕ → List ℕ
+maskColumnsFrom m i zero = []
+maskColumnsFrom m i (suc n) = elim (bit i m) [ true ↦ i ∷ maskColumnsFrom m (suc i) n | false ↦ maskColumnsFrom m (suc i) n ]
+
+unfoldable pub maskColumns : ℕ → List ℕ
+maskColumns m = maskColumnsFrom m 0 8
+
+-- the child row maps to this parent row: the equal key
+unfoldable pub mapsTo : ForeignKey → Row → Row → Bool
+mapsTo k child parent = sameKey (k .childColumns) (k .parentColumns) child parent
+
+-- the child row needs a parent: "a live child row with no NULL in its child key"
+unfoldable pub due : ForeignKey → Row → Bool
+due k child = fullKey (k .childColumns) child
+
+-- a "live parent row with the equal key"
+unfoldable pub serves : ForeignKey → Row → Row → Bool
+serves k child parent = live parent && mapsTo k child parent
+
+-- "An orphan of a foreign key is a live child row with no NULL in its child key and no live parent row with the equal key."
+unfoldable pub orphan : ForeignKey → List Row → Row → Bool
+orphan k parents child = due k child && not (any (serves k child) parents)
+
+-- the number counted from the rows
+unfoldable pub orphans : Tables → ForeignKey → ℕ
+orphans tabs k = count (orphan k (getD tabs (k .parent) [])) (getD tabs (k .child) [])
+
+-- of foreign keys 0 to 31
+unfoldable pub counts : Schema → Tables → List ℤ
+counts s tabs = padded 32 (map (λ k. pos (orphans tabs k)) (s .keys))
+
+-- "a row is taken if, at its turn, it is live and has the old key"
+unfoldable pub takes : ForeignKey → Row → Row → Bool
+takes k old row = live row && mapsTo k row old
+
+-- row x is live and has row y's parent key
+unfoldable pub sameParentKey : ForeignKey → Row → Row → Bool
+sameParentKey k y x = live x && sameKey (k .parentColumns) (k .parentColumns) x y
+
+-- "Actions follow a delete, or an update whose new parent key is not the old one, if the old key has no NULL."
+unfoldable pub fires : Row → ℕ → Row → ForeignKey → Bool
+fires new t old k = eqb (k .parent) t && (fullKey (k .parentColumns) old && not (sameParentKey k old new))

@@ -1,0 +1,71 @@
+-- The orphan list: "all orphans counted from the rows, each once; records past them keep what they held. The sequence is open."
+-- Assumes nothing.
+use mathlib.Core.Path.{_≡_}
+use mathlib.Core.Bool.{Bool, not, _&&_}
+use mathlib.Core.List.{List, [], _∷_}
+use Prim.Native.Nat.{ℕ, _+_}
+use lib.Dec.{ltb, eqb}
+use lib.IntN.{ℤ}
+use lib.ListN.{length, getD, take, drop}
+use Rattle.schema.specs.declared.SchemaAnswer.{SchemaAnswer}
+use Rattle.schema.specs.declared.SchemaAnswer.the-variants.{Accepted, Malformed, Unmatched}
+use Rattle.schema.specs.Records.{ForeignKey, Schema, keyOf}
+use Rattle.schema.specs.Fields.{schemaOf}
+use Rattle.schema.specs.Check.{checkSchema}
+use Rattle.schema.specs.Sizes.{areaSize}
+use Rattle.rules.specs.declared.Refusal.the-variants.{SchemaMalformed, SchemaUnmatched, WrongLength, Damaged, ListTooShort}
+use Rattle.rules.specs.declared.Orphan.{Orphan}
+use Rattle.rules.specs.declared.Listing.{Listing}
+use Rattle.rules.specs.declared.Listing.the-variants.{Listed, NotListed}
+use Rattle.rules.specs.Lists.{count, one}
+use Rattle.rules.specs.Refusals.{Verdict, pass, fail, failing, number}
+use Rattle.rules.specs.Rows.{Tables, rowAt}
+use Rattle.rules.specs.Keys.{orphan, orphans}
+use Rattle.rules.specs.State.{undamaged}
+use Rattle.rules.specs.Area.{view, legible}
+
+-- row r of the child table is an orphan of foreign key k
+unfoldable pub isOrphan : Schema → Tables → ℕ → ℕ → Bool
+isOrphan s tabs k r =
+    ltb k (length (s .keys)) && orphan (keyOf s k) (getD tabs (keyOf s k .parent) []) (rowAt (keyOf s k .child) r tabs)
+
+-- the orphans of all foreign keys
+unfoldable pub orphanTotal : List ForeignKey → Tables → ℕ
+orphanTotal [] tabs = 0
+orphanTotal (k ∷ ks) tabs = orphans tabs k + orphanTotal ks tabs
+
+unfoldable pub isRecord : ℕ → ℕ → Orphan → Bool
+isRecord k r o = eqb (o .key) k && eqb (o .row) r
+
+-- a list that held `before` holds the orphans: all of them, each once, and past them what it held
+pub record HoldsOrphans (s : Schema) (tabs : Tables) (before after : List Orphan) : Type 0 where
+  pub each : (k r : ℕ) → count (isRecord k r) (take (orphanTotal (s .keys) tabs) after) ≡ one (isOrphan s tabs k r)
+  pub rest : drop (orphanTotal (s .keys) tabs) after ≡ drop (orphanTotal (s .keys) tabs) before
+  pub size : length after ≡ length before
+
+unfoldable pub schemaVerdict : SchemaAnswer → Verdict → Verdict
+schemaVerdict Accepted v = v
+schemaVerdict Malformed v = fail SchemaMalformed
+schemaVerdict Unmatched v = fail SchemaUnmatched
+
+-- "Checks: 1, 2, 3, 10, 22."
+unfoldable pub listVerdict : List ℕ → List ℤ → ℕ → Verdict
+listVerdict bs ws room =
+    let s : Schema = schemaOf bs in
+    schemaVerdict (checkSchema bs)
+    (failing (not (eqb (length ws) (areaSize s))) WrongLength
+    (failing (not (legible s ws && undamaged s (view s ws))) Damaged
+    (failing (ltb room (orphanTotal (s .keys) (view s ws .work .tabs))) ListTooShort pass)))
+
+unfoldable pub listed : Verdict → ℕ → Listing
+listed pass n = Listed n
+listed (fail r) n = NotListed r
+
+-- the answer, where the lent list has `room` records
+unfoldable pub listAnswer : List ℕ → List ℤ → ℕ → Listing
+listAnswer bs ws room = listed (listVerdict bs ws room) (orphanTotal (schemaOf bs .keys) (view (schemaOf bs) ws .work .tabs))
+
+-- "The answer is code 0 and their number; refused, the code and 0."
+unfoldable pub listShown : Listing → ℕ × ℕ
+listShown (Listed n) = (0, n)
+listShown (NotListed r) = (number r, 0)

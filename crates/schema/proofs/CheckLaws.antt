@@ -1,0 +1,73 @@
+-- Laws of the check, as the functions that make it use them. Assumes nothing.
+use mathlib.Core.Path.{_≡_, refl, sym, ap, _∙_}
+use mathlib.Core.Bool.{Bool, true, false, not, cond, _&&_}
+use mathlib.Core.List.{List}
+use Prim.Native.Nat.{ℕ, zero, suc, _+_, _-_, _*_, _<_, _≤_}
+use native.Mathlib.Nat.{zero-add}
+use native.Mathlib.Omega.{arith}
+use borrow.Author.Tests.{le-leb, lt-leb, leb-true, ltb-true, eqb-true, lt-ltb, le-ltb}
+use lib.Dec.{leb, ltb, eqb}
+use lib.ListN.{length}
+use Rattle.schema.specs.Bytes.{half}
+use Rattle.schema.specs.declared.SchemaAnswer.the-variants.{Accepted, Malformed, Unmatched}
+use Rattle.schema.specs.Ranges.{allFrom, anyFrom}
+use Rattle.schema.specs.Fields
+use Rattle.schema.specs.Check
+use Rattle.schema.proofs.RangeLaws.{and-left, and-right, all-at}
+
+pub starts-is : (start bs : List ℕ) {b : Bool} → length start ≤ length bs → allFrom (Check.sameAt bs start) (length start) 0 ≡ b → b ≡ Check.startsWith start bs
+unfolding Check.startsWith
+starts-is start bs h e = rw (le-leb (length start) (length bs) h) (sym e)
+
+module _ (bs : List ℕ) where
+  pub header-short : length bs < 16 → false ≡ Check.headerRules bs
+  unfolding Check.headerRules
+  header-short h = rw (lt-leb 16 (length bs) h)
+
+  pub header-is : {a b : Bool} → 16 ≤ length bs → a ≡ Check.startsWith Check.magic bs → b ≡ Check.headerRest bs → a && b ≡ Check.headerRules bs
+  unfolding Check.headerRules
+  header-is h p q = rw (le-leb 16 (length bs) h, p, q)
+
+  pub table-no : (t : ℕ) → Check.sizeRules bs t ≡ false → false ≡ Check.tableRules bs t
+  unfolding Check.tableRules
+  table-no t e = rw e
+
+  pub table-rest : (t : ℕ) → Check.sizeRules bs t ≡ true → Check.tableRules bs t ≡ Check.tableRest bs t
+  unfolding Check.tableRules
+  table-rest t e = rw e
+
+  pub key-no : (k : ℕ) → Check.codeRules bs k ≡ false → false ≡ Check.keyRules bs k
+  unfolding Check.keyRules
+  key-no k e = rw e
+
+  pub key-rest : (k : ℕ) → Check.codeRules bs k ≡ true → Check.keyRules bs k ≡ Check.keyRest bs k
+  unfolding Check.keyRules
+  key-rest k e = rw e
+
+  pub parent-no : (k : ℕ) → Fields.tableCount bs ≤ Fields.parentOf bs k → false ≡ Check.parentRules bs k
+  unfolding Check.parentRules
+  parent-no k h = rw (le-ltb (Fields.parentOf bs k) (Fields.tableCount bs) h)
+
+  pub parent-rest : (k : ℕ) → Fields.parentOf bs k < Fields.tableCount bs → Check.parentRules bs k ≡ (allFrom (Check.columnRule bs (Fields.keyStart bs k + 10) (Fields.columnsOf bs (Fields.parentOf bs k))) (Fields.widthOf bs k) 0 && anyFrom (Check.uniqueIs bs (Fields.keyStart bs k + 10) (Fields.widthOf bs k) (Fields.parentOf bs k)) 4 0)
+  unfolding Check.parentRules
+  parent-rest k h = rw (lt-ltb (Fields.parentOf bs k) (Fields.tableCount bs) h)
+
+  pub well-no : Check.headerRules bs ≡ false → false ≡ Check.wellFormed bs
+  unfolding Check.wellFormed
+  well-no e = rw e
+
+  pub well-rest : Check.headerRules bs ≡ true → Check.wellFormed bs ≡ (allFrom (Check.tableRules bs) (Fields.tableCount bs) 0 && allFrom (Check.keyRules bs) (Fields.keyCount bs) 0)
+  unfolding Check.wellFormed
+  well-rest e = rw e
+
+  pub answer-1 : Check.wellFormed bs ≡ false → Malformed ≡ Check.checkSchema bs
+  unfolding Check.checkSchema
+  answer-1 e = rw e
+
+  pub answer-2 : Check.wellFormed bs ≡ true → allFrom (Check.parentRules bs) (Fields.keyCount bs) 0 ≡ false → Unmatched ≡ Check.checkSchema bs
+  unfolding Check.checkSchema
+  answer-2 e f = rw (e, f)
+
+  pub answer-0 : Check.wellFormed bs ≡ true → allFrom (Check.parentRules bs) (Fields.keyCount bs) 0 ≡ true → Accepted ≡ Check.checkSchema bs
+  unfolding Check.checkSchema
+  answer-0 e f = rw (e, f)

@@ -1,0 +1,57 @@
+-- The schema S of the paper's example: its bytes are accepted, and are that schema. Assumes nothing.
+use mathlib.Core.Path.{_≡_, refl}
+use mathlib.Core.Bool.{true, false}
+use mathlib.Core.List.{List, [], _∷_}
+use Prim.Native.Nat.{ℕ}
+use lib.IntN.{pos}
+use lib.Count.{ones, onesIn}
+use lib.ListN.{replicate}
+use Rattle.schema.specs.declared.Action.the-variants.{Cascade}
+use Rattle.schema.specs.declared.SchemaAnswer.the-variants.{Accepted, Malformed, Unmatched}
+use Rattle.schema.specs.Ranges.{allFrom, anyFrom, andAll, every, listFrom}
+use Rattle.schema.specs.Records.{Schema}
+use Rattle.schema.specs.Bytes
+use Rattle.schema.specs.Fields
+use Rattle.schema.specs.Fields.{schemaOf}
+use Rattle.schema.specs.Check
+use Rattle.schema.specs.Check.{checkSchema}
+use Rattle.schema.specs.Sizes
+
+pub bytesS : List ℕ
+bytesS =
+    70 ∷ 75 ∷ 66 ∷ 49 ∷ 2 ∷ 0 ∷ 1 ∷ 0 ∷ 16 ∷ 0 ∷ 176 ∷ 0 ∷ 8 ∷ 0 ∷ 192 ∷ 0
+    ∷ 4 ∷ 0 ∷ 1 ∷ 1 ∷ 1 ∷ 0 ∷ 0 ∷ 0 ∷ 0 ∷ 0 ∷ 0 ∷ 0 ∷ 0 ∷ 0 ∷ 0 ∷ 0
+    ∷ 0 ∷ 0 ∷ 0 ∷ 0 ∷ 0 ∷ 0 ∷ 0 ∷ 0 ∷ 0 ∷ 0 ∷ 0 ∷ 0 ∷ 0 ∷ 0 ∷ 0 ∷ 0
+    ∷ 0 ∷ 0 ∷ 0 ∷ 0 ∷ 0 ∷ 0 ∷ 0 ∷ 0 ∷ 0 ∷ 0 ∷ 0 ∷ 0 ∷ 0 ∷ 0 ∷ 0 ∷ 0
+    ∷ 0 ∷ 0 ∷ 0 ∷ 0 ∷ 0 ∷ 0 ∷ 0 ∷ 0 ∷ 0 ∷ 0 ∷ 0 ∷ 0 ∷ 0 ∷ 0 ∷ 0 ∷ 0
+    ∷ 0 ∷ 0 ∷ 0 ∷ 0 ∷ 0 ∷ 0 ∷ 0 ∷ 0 ∷ 0 ∷ 0 ∷ 0 ∷ 0 ∷ 0 ∷ 0 ∷ 0 ∷ 0
+    ∷ 4 ∷ 0 ∷ 2 ∷ 1 ∷ 1 ∷ 0 ∷ 0 ∷ 0 ∷ 0 ∷ 0 ∷ 0 ∷ 0 ∷ 0 ∷ 0 ∷ 0 ∷ 0
+    ∷ 0 ∷ 0 ∷ 0 ∷ 0 ∷ 0 ∷ 0 ∷ 0 ∷ 0 ∷ 0 ∷ 0 ∷ 0 ∷ 0 ∷ 0 ∷ 0 ∷ 0 ∷ 0
+    ∷ 0 ∷ 0 ∷ 0 ∷ 0 ∷ 0 ∷ 0 ∷ 0 ∷ 0 ∷ 0 ∷ 0 ∷ 0 ∷ 0 ∷ 0 ∷ 0 ∷ 0 ∷ 0
+    ∷ 0 ∷ 0 ∷ 0 ∷ 0 ∷ 0 ∷ 0 ∷ 0 ∷ 0 ∷ 0 ∷ 0 ∷ 0 ∷ 0 ∷ 0 ∷ 0 ∷ 0 ∷ 0
+    ∷ 0 ∷ 0 ∷ 0 ∷ 0 ∷ 0 ∷ 0 ∷ 0 ∷ 0 ∷ 0 ∷ 0 ∷ 0 ∷ 0 ∷ 0 ∷ 0 ∷ 0 ∷ 0
+    ∷ 1 ∷ 0 ∷ 1 ∷ 4 ∷ 4 ∷ 1 ∷ 1 ∷ 255 ∷ 255 ∷ 255 ∷ 0 ∷ 255 ∷ 255 ∷ 255 ∷ 0 ∷ 0
+    ∷ []
+
+pub schemaS : Schema
+schemaS =
+    record {
+      tables =
+          record { rows = 4; columns = 1; notNull = 1; uniques = 1 ∷ 0 ∷ 0 ∷ 0 ∷ []; defaultNull = 0; defaults = replicate 8 (pos 0) }
+          ∷ record { rows = 4; columns = 2; notNull = 1; uniques = 1 ∷ 0 ∷ 0 ∷ 0 ∷ []; defaultNull = 0; defaults = replicate 8 (pos 0) }
+          ∷ [];
+      keys = record { child = 1; parent = 0; deferred = true; onDelete = Cascade; onUpdate = Cascade; childColumns = 1 ∷ []; parentColumns = 0 ∷ [] } ∷ [];
+      room = 8;
+    }
+
+pub s-accepted : checkSchema bytesS ≡ Accepted
+unfolding checkSchema Check.wellFormed Check.headerRules Check.startsWith Check.headerRest Check.tableRules Check.sizeRules Check.tableRest Check.maskRule Check.keyRules Check.codeRules Check.keyRest Check.columnRule Check.columnsRule Check.newColumn Check.parentRules Check.uniqueIs Check.maskIs Check.inMask Bytes.bit allFrom anyFrom every andAll ones onesIn bytesS
+s-accepted = refl
+
+pub s-is : schemaOf bytesS ≡ schemaS
+unfolding schemaOf Fields.tableFrom Fields.keyFrom Fields.actionFrom listFrom bytesS schemaS
+s-is = refl
+
+pub s-size : Sizes.areaSize schemaS ≡ 433
+unfolding Sizes.areaSize Sizes.rowsSize Sizes.tableSize schemaS
+s-size = refl

@@ -1,0 +1,150 @@
+-- A field that was read at its place is the field of the schema, and within its bounds. Assumes nothing.
+use mathlib.Core.Path.{_≡_, refl, sym, ap, _∙_}
+use mathlib.Core.Bool.{Bool, true, false}
+use mathlib.Core.List.{List, [], _∷_}
+use Prim.Native.Nat.{ℕ, zero, suc, _+_, _*_, _<_, _≤_}
+use native.Mathlib.Nat.{zero-add}
+use native.Mathlib.Omega.{arith}
+use borrow.Author.Tests.{ltb-true}
+use lib.Dec.{eqb}
+use lib.IntN.{ℤ, pos}
+use lib.ListN.{length, getD}
+use Rattle.schema.specs.declared.Action.{Action}
+use Rattle.schema.specs.declared.SchemaAnswer.the-variants.{Accepted}
+use Rattle.schema.specs.Ranges.{listFrom, allFrom}
+use Rattle.schema.specs.Bounds.{Within}
+use Rattle.schema.specs.Records.{Table, ForeignKey, Schema, tableOf, keyOf}
+use Rattle.schema.specs.Bytes
+use Rattle.schema.specs.Fields
+use Rattle.schema.specs.Fields.{tableFrom, keyFrom, schemaOf}
+use Rattle.schema.specs.Check
+use Rattle.schema.proofs.RangeLaws.{all-at}
+use Rattle.schema.proofs.Formed.{Formed, formed, Sizes, Codes}
+use Rattle.schema.proofs.ListLaws.{length-from, get-list}
+use Rattle.schema.proofs.SchemaLaws.{tables-are, keys-are, room-is, table-is, key-is, accepted-formed, accepted-parents}
+use Rattle.schema.proofs.KeyLaws.{parent-key, parent-below}
+
+module _ (bs : List ℕ) (acc : Check.checkSchema bs ≡ Accepted) where
+  w : Check.wellFormed bs ≡ true
+  w = accepted-formed bs acc
+
+  -- the header is within the bytes
+  pub header-within : 16 ≤ length bs
+  header-within = omega (arith, formed bs w .header)
+
+  pub count-tables : {r : ℕ} → r ≡ Fields.tableCount bs → (r ≡ length (schemaOf bs .tables)) × Within 1 16 r
+  count-tables e = (e ∙ sym (tables-are bs), rw e (formed bs w .header .tables))
+
+  pub count-keys : {r : ℕ} → r ≡ Fields.keyCount bs → (r ≡ length (schemaOf bs .keys)) × (r ≤ 32)
+  count-keys e = (e ∙ sym (keys-are bs), rw e (formed bs w .header .keys))
+
+  pub read-room : {r : ℕ} → r ≡ Fields.roomOf bs → (r ≡ schemaOf bs .room) × Within 1 4096 r
+  read-room e = (e ∙ sym (room-is bs), rw e (formed bs w .header .room))
+
+  module _ (t : ℕ) (h : t < length (schemaOf bs .tables)) where
+    -- the record of table t is within the bytes
+    pub table-within : Fields.tableStart t + 80 ≤ length bs
+    table-within = omega (arith, formed bs w .header, tables-are bs)
+
+    size-here : Sizes bs t
+    size-here = formed bs w .table t (omega (arith, tables-are bs)) .sizes
+
+    pub read-rows : {r : ℕ} → r ≡ Fields.rowsOf bs t → (r ≡ tableOf (schemaOf bs) t .rows) × Within 1 1024 r
+    unfolding tableFrom
+    read-rows e = (e ∙ sym (ap (λ (x : Table). x .rows) (table-is bs t h)), rw e (size-here .rows))
+
+    pub read-columns : {r : ℕ} → r ≡ Fields.columnsOf bs t → (r ≡ tableOf (schemaOf bs) t .columns) × Within 1 8 r
+    unfolding tableFrom
+    read-columns e = (e ∙ sym (ap (λ (x : Table). x .columns) (table-is bs t h)), rw e (size-here .columns))
+
+    pub read-not-null : {r : ℕ} → r ≡ Fields.notNullOf bs t → r ≡ tableOf (schemaOf bs) t .notNull
+    unfolding tableFrom
+    read-not-null e = e ∙ sym (ap (λ (x : Table). x .notNull) (table-is bs t h))
+
+    pub read-default-null : {r : ℕ} → r ≡ Fields.defaultNullOf bs t → r ≡ tableOf (schemaOf bs) t .defaultNull
+    unfolding tableFrom
+    read-default-null e = e ∙ sym (ap (λ (x : Table). x .defaultNull) (table-is bs t h))
+
+    pub read-default : (c : ℕ) → c < 8 → {r : ℤ} → r ≡ Fields.defaultOf bs t c → r ≡ getD (tableOf (schemaOf bs) t .defaults) c (pos 0)
+    unfolding tableFrom
+    read-default c l e = e ∙ sym (ap (λ (x : Table). getD (x .defaults) c (pos 0)) (table-is bs t h) ∙ get-list (Fields.defaultOf bs t) 8 c (pos 0) l)
+
+    pub read-unique : (i : ℕ) → i < 4 → {r : ℕ} → r ≡ Fields.uniqueOf bs t i → r ≡ getD (tableOf (schemaOf bs) t .uniques) i 0
+    unfolding tableFrom
+    read-unique i l e = e ∙ sym (ap (λ (x : Table). getD (x .uniques) i 0) (table-is bs t h) ∙ get-list (Fields.uniqueOf bs t) 4 i 0 l)
+
+  module _ (k : ℕ) (h : k < length (schemaOf bs .keys)) where
+    -- the record of foreign key k is within the bytes
+    pub key-within : Fields.keyStart bs k + 16 ≤ length bs
+    key-within = omega (arith, formed bs w .header, keys-are bs)
+
+    codes-here : Codes bs k
+    codes-here = formed bs w .key k (omega (arith, keys-are bs)) .codes
+
+    pub read-child : {r : ℕ} → r ≡ Fields.childOf bs k → (r ≡ keyOf (schemaOf bs) k .child) × (r < length (schemaOf bs .tables))
+    unfolding keyFrom
+    read-child e = (e ∙ sym (ap (λ (x : ForeignKey). x .child) (key-is bs k h)), omega (arith, codes-here .child, tables-are bs))
+
+    pub read-parent : {r : ℕ} → r ≡ Fields.parentOf bs k → (r ≡ keyOf (schemaOf bs) k .parent) × (r < length (schemaOf bs .tables))
+    unfolding keyFrom
+    read-parent e =
+        let q = e ∙ sym (ap (λ (x : ForeignKey). x .parent) (key-is bs k h)) in
+        (q, rw q (parent-key bs acc k h .there))
+
+    pub read-deferred : {r : Bool} → r ≡ eqb (Fields.deferredOf bs k) 1 → r ≡ keyOf (schemaOf bs) k .deferred
+    unfolding keyFrom
+    read-deferred e = e ∙ sym (ap (λ (x : ForeignKey). x .deferred) (key-is bs k h))
+
+    pub read-on-delete : {r : Action} → r ≡ Fields.actionFrom (Fields.onDeleteOf bs k) → r ≡ keyOf (schemaOf bs) k .onDelete
+    unfolding keyFrom
+    read-on-delete e = e ∙ sym (ap (λ (x : ForeignKey). x .onDelete) (key-is bs k h))
+
+    pub read-on-update : {r : Action} → r ≡ Fields.actionFrom (Fields.onUpdateOf bs k) → r ≡ keyOf (schemaOf bs) k .onUpdate
+    unfolding keyFrom
+    read-on-update e = e ∙ sym (ap (λ (x : ForeignKey). x .onUpdate) (key-is bs k h))
+
+    width-is : length (keyOf (schemaOf bs) k .childColumns) ≡ Fields.widthOf bs k
+    unfolding keyFrom
+    width-is = ap (λ (x : ForeignKey). length (x .childColumns)) (key-is bs k h) ∙ length-from (Fields.childColumnOf bs k) (Fields.widthOf bs k) 0
+
+    -- as many parent columns as child columns
+    pub same-width : length (keyOf (schemaOf bs) k .parentColumns) ≡ length (keyOf (schemaOf bs) k .childColumns)
+    unfolding keyFrom
+    same-width = ap (λ (x : ForeignKey). length (x .parentColumns)) (key-is bs k h) ∙ length-from (Fields.parentColumnOf bs k) (Fields.widthOf bs k) 0 ∙ sym width-is
+
+    pub read-width : {r : ℕ} → r ≡ Fields.widthOf bs k → (r ≡ length (keyOf (schemaOf bs) k .childColumns)) × Within 1 4 r
+    read-width e = (e ∙ sym width-is, rw e (codes-here .width))
+
+    module _ (i : ℕ) (l : i < length (keyOf (schemaOf bs) k .childColumns)) where
+      pub column-within : i < 4
+      column-within = omega (arith, width-is, codes-here .width)
+
+      below : Fields.childColumnOf bs k i < Fields.columnsOf bs (Fields.childOf bs k)
+      unfolding Check.columnRule
+      below =
+          let f = formed bs w .key k (omega (arith, keys-are bs)) .childColumns in
+          ltb-true _ _
+          (rw (zero-add i) at
+          (all-at (Check.columnRule bs (Fields.keyStart bs k + 6) (Fields.columnsOf bs (Fields.childOf bs k))) (Fields.widthOf bs k) 0 f i (omega (arith, width-is))))
+
+      pub read-child-column : {r : ℕ} → r ≡ Fields.childColumnOf bs k i → (r ≡ getD (keyOf (schemaOf bs) k .childColumns) i 0) × (r < tableOf (schemaOf bs) (keyOf (schemaOf bs) k .child) .columns)
+      unfolding keyFrom tableFrom
+      read-child-column e =
+          let t = table-is bs (Fields.childOf bs k) (omega (arith, codes-here .child, tables-are bs)) in (
+            e ∙ sym (ap (λ (x : ForeignKey). getD (x .childColumns) i 0) (key-is bs k h) ∙ get-list (Fields.childColumnOf bs k) (Fields.widthOf bs k) i 0 (omega (arith, width-is))),
+            rw (key-is bs k h, t, e) below,
+          )
+
+      pub read-parent-column : {r : ℕ} → r ≡ Fields.parentColumnOf bs k i → (r ≡ getD (keyOf (schemaOf bs) k .parentColumns) i 0) × (r < tableOf (schemaOf bs) (keyOf (schemaOf bs) k .parent) .columns)
+      unfolding keyFrom tableFrom
+      read-parent-column e =
+          let there : Fields.parentOf bs k < length (schemaOf bs .tables) = rw (key-is bs k h) at (parent-key bs acc k h .there) in (
+            e ∙ sym (ap (λ (x : ForeignKey). getD (x .parentColumns) i 0) (key-is bs k h) ∙ get-list (Fields.parentColumnOf bs k) (Fields.widthOf bs k) i 0 (omega (arith, width-is))),
+            rw (key-is bs k h, table-is bs (Fields.parentOf bs k) there, e) (parent-below bs acc k h i (omega (arith, width-is))),
+          )
+
+pub byte-assoc : (bs : List ℕ) (a b i : ℕ) → Bytes.byte bs (a + (b + i)) ≡ Bytes.byte bs (a + b + i)
+byte-assoc bs a b i = let e : a + (b + i) ≡ a + b + i = omega arith in ap (Bytes.byte bs) e
+
+pub byte-zero : (bs : List ℕ) (a : ℕ) → Bytes.byte bs (a + 0) ≡ Bytes.byte bs a
+byte-zero bs a = let e : a + 0 ≡ a = omega arith in ap (Bytes.byte bs) e

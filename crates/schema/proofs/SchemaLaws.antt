@@ -1,0 +1,76 @@
+-- The schema that bytes are, where the bytes break no rule of refusal 1. Assumes nothing.
+use mathlib.Core.Path.{_≡_, refl, sym, ap, _∙_}
+use mathlib.Core.Bool.{Bool, true, false, cond}
+use mathlib.Core.List.{List, [], _∷_}
+use Prim.Native.Nat.{ℕ, zero, suc, _+_, _*_, _<_, _≤_}
+use native.Mathlib.Omega.{arith}
+use borrow.Author.Tests.{le-leb}
+use lib.Dec.{leb}
+use lib.IntN.{ℤ, pos}
+use lib.ListN.{length, getD}
+use native.Mathlib.Nat.{zero-add}
+use Rattle.schema.specs.declared.SchemaAnswer.the-variants.{Accepted, Malformed, Unmatched}
+use Rattle.schema.specs.Ranges.{listFrom, all, allFrom}
+use Rattle.schema.proofs.RangeLaws.{all-at}
+use Rattle.schema.specs.Bounds.{Within}
+use Rattle.schema.specs.Records.{Table, ForeignKey, Schema, noTable, noKey, tableOf, keyOf}
+use Rattle.schema.specs.Fields
+use Rattle.schema.specs.Fields.{tableFrom, keyFrom, schemaOf}
+use Rattle.schema.specs.Check
+use Rattle.schema.proofs.Formed.{Formed, formed, Sizes, Codes}
+use Rattle.schema.proofs.ListLaws.{length-from, get-list, all-list}
+
+-- what the theorems on the rules need of a schema
+pub record Valid (s : Schema) : Type 0 where
+  pub few : length (s .keys) ≤ 32
+  pub narrow : all (λ t. leb (t .columns) 8) (s .tables) ≡ true
+  pub short : all (λ t. leb (t .rows) 1024) (s .tables) ≡ true
+
+module _ (bs : List ℕ) where
+  pub tables-are : length (schemaOf bs .tables) ≡ Fields.tableCount bs
+  unfolding schemaOf
+  tables-are = length-from (tableFrom bs) (Fields.tableCount bs) 0
+
+  pub keys-are : length (schemaOf bs .keys) ≡ Fields.keyCount bs
+  unfolding schemaOf
+  keys-are = length-from (keyFrom bs) (Fields.keyCount bs) 0
+
+  pub room-is : schemaOf bs .room ≡ Fields.roomOf bs
+  unfolding schemaOf
+  room-is = refl
+
+  pub table-is : (t : ℕ) → t < length (schemaOf bs .tables) → tableOf (schemaOf bs) t ≡ tableFrom bs t
+  unfolding schemaOf
+  table-is t h = get-list (tableFrom bs) (Fields.tableCount bs) t noTable (omega (arith, tables-are))
+
+  pub key-is : (k : ℕ) → k < length (schemaOf bs .keys) → keyOf (schemaOf bs) k ≡ keyFrom bs k
+  unfolding schemaOf
+  key-is k h = get-list (keyFrom bs) (Fields.keyCount bs) k noKey (omega (arith, keys-are))
+
+  module _ (w : Check.wellFormed bs ≡ true) where
+    pub valid : Valid (schemaOf bs)
+    unfolding schemaOf tableFrom
+    valid =
+        let f = formed bs w in
+        record {
+          few = omega (arith, keys-are, f .header);
+          narrow = all-list (tableFrom bs) (λ t. leb (t .columns) 8) (Fields.tableCount bs) (λ t h. le-leb (Fields.columnsOf bs t) 8 (f .table t h .sizes .columns .high));
+          short = all-list (tableFrom bs) (λ t. leb (t .rows) 1024) (Fields.tableCount bs) (λ t h. le-leb (Fields.rowsOf bs t) 1024 (f .table t h .sizes .rows .high));
+        }
+
+-- an accepted schema breaks no rule of refusal 1, and every foreign key has its parent key
+module _ (bs : List ℕ) (e : Check.checkSchema bs ≡ Accepted) where
+  both : (a b : Bool) → cond a (cond b Accepted Unmatched) Malformed ≡ Accepted → (a ≡ true) × (b ≡ true)
+  both true true h = (refl, refl)
+  both true false h = let z : _≡_ {A = ℕ} 0 1 = cc in absurd (omega arith)
+  both false b h = let z : _≡_ {A = ℕ} 0 1 = cc in absurd (omega arith)
+
+  parts : (Check.wellFormed bs ≡ true) × (allFrom (Check.parentRules bs) (Fields.keyCount bs) 0 ≡ true)
+  unfolding Check.checkSchema
+  parts = both (Check.wellFormed bs) (allFrom (Check.parentRules bs) (Fields.keyCount bs) 0) e
+
+  pub accepted-formed : Check.wellFormed bs ≡ true
+  accepted-formed = parts .0
+
+  pub accepted-parents : (k : ℕ) → k < length (schemaOf bs .keys) → Check.parentRules bs k ≡ true
+  accepted-parents k h = rw (zero-add k) at (all-at (Check.parentRules bs) (Fields.keyCount bs) 0 (parts .1) k (omega (arith, keys-are bs)))

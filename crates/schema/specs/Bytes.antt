@@ -1,0 +1,30 @@
+-- Numbers in bytes. "Little-endian; all fields unsigned except the defaults."
+-- Assumes nothing.
+use mathlib.Core.Bool.{Bool}
+use mathlib.Core.List.{List}
+use Prim.Native.Nat.{ℕ, _+_, _*_, _/_, _%_, _^_}
+use lib.Dec.{eqb}
+use lib.IntN.{ℤ}
+use lib.ListN.{getD}
+use mir.Syntax.{w64}
+use mir.Val.{toZ}
+
+-- the byte at i, 0 past the end
+abbrev pub byte : List ℕ → ℕ → ℕ
+byte bs i = getD bs i 0
+
+-- the unsigned 16-bit number whose two bytes start at i
+abbrev pub half : List ℕ → ℕ → ℕ
+half bs i = getD bs i 0 + 256 * getD bs (i + 1) 0
+
+-- the unsigned 64-bit number whose eight bytes start at i
+abbrev pub word : List ℕ → ℕ → ℕ
+word bs i = half bs i + 65536 * half bs (i + 2) + 4294967296 * half bs (i + 4) + 281474976710656 * half bs (i + 6)
+
+-- the signed number that the same 64 bits are in two's complement
+abbrev pub signedWord : List ℕ → ℕ → ℤ
+signedWord bs i = toZ w64 (word bs i)
+
+-- "Bit i of a mask is column i"
+unfoldable pub bit : ℕ → ℕ → Bool
+bit i m = eqb (m / 2 ^ i % 2) 1

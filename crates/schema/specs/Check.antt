@@ -1,0 +1,173 @@
+-- The check of schema bytes, in the paper's order: 1, the bytes break a rule; 2, a foreign key has no parent key, judged after 1 for all records.
+-- Assumes nothing.
+use mathlib.Core.Bool.{Bool, true, false, not, cond, _&&_, _||_}
+use mathlib.Core.List.{List, [], _∷_}
+use Prim.Native.Nat.{ℕ, _+_, _-_, _*_, _/_, _^_}
+use lib.Dec.{leb, ltb, eqb}
+use lib.Count.{ones}
+use lib.ListN.{length}
+use Rattle.schema.specs.Bytes.{byte, half, word, bit}
+use Rattle.schema.specs.declared.SchemaAnswer.{SchemaAnswer}
+use Rattle.schema.specs.declared.SchemaAnswer.the-variants.{Accepted, Malformed, Unmatched}
+use Rattle.schema.specs.Ranges.{allFrom, anyFrom, every}
+use Rattle.schema.specs.Fields
+
+-- lo to hi
+abbrev pub within : ℕ → ℕ → ℕ → Bool
+within lo hi x = leb lo x && leb x hi
+
+-- byte at + i is b
+abbrev pub isByte : List ℕ → ℕ → ℕ → ℕ → Bool
+isByte bs at b i = eqb (byte bs (at + i)) b
+
+-- ---- the header
+
+-- 46 4B 42 31
+abbrev pub magic : List ℕ
+magic = 0x46 ∷ 0x4B ∷ 0x42 ∷ 0x31 ∷ []
+
+-- the bytes have the given ones at i
+abbrev pub sameAt : List ℕ → List ℕ → ℕ → Bool
+sameAt bs start i = eqb (byte bs i) (byte start i)
+
+unfoldable pub startsWith : List ℕ → List ℕ → Bool
+startsWith start bs = leb (length start) (length bs) && allFrom (sameAt bs start) (length start) 0
+
+-- tables, foreign keys, offsets, journal room, whole length
+unfoldable pub headerRest : List ℕ → Bool
+headerRest bs =
+    every
+    (within 1 16 (Fields.tableCount bs)
+    ∷ leb (Fields.keyCount bs) 32
+    ∷ eqb (half bs 8) 16
+    ∷ eqb (half bs 10) (16 + 80 * Fields.tableCount bs)
+    ∷ within 1 4096 (Fields.roomOf bs)
+    ∷ eqb (half bs 14) (16 + 80 * Fields.tableCount bs + 16 * Fields.keyCount bs)
+    ∷ eqb (length bs) (16 + 80 * Fields.tableCount bs + 16 * Fields.keyCount bs)  -- the number of bytes handed over
+    ∷ [])
+
+unfoldable pub headerRules : List ℕ → Bool
+headerRules bs = leb 16 (length bs) && startsWith magic bs && headerRest bs
+
+-- ---- a table record
+
+-- the mask at + i has no bit at `columns` and above
+unfoldable pub maskRule : List ℕ → ℕ → ℕ → ℕ → Bool
+maskRule bs at columns i = eqb (byte bs (at + i) / 2 ^ columns) 0
+
+-- unique-key mask i + 1 is not used after an unused one
+abbrev pub uniqueRule : List ℕ → ℕ → ℕ → Bool
+uniqueRule bs t i = eqb (Fields.uniqueOf bs t (i + 1)) 0 || not (eqb (Fields.uniqueOf bs t i) 0)
+
+-- default c is 0 where NULL or no such column
+abbrev pub defaultRule : List ℕ → ℕ → ℕ → Bool
+defaultRule bs t c =
+    eqb (word bs (Fields.tableStart t + 16 + 8 * c)) 0 || ltb c (Fields.columnsOf bs t) && not (bit c (Fields.defaultNullOf bs t))
+
+-- rows R, columns C
+unfoldable pub sizeRules : List ℕ → ℕ → Bool
+sizeRules bs t =
+    every
+    (within 1 1024 (Fields.rowsOf bs t)
+    ∷ within 1 8 (Fields.columnsOf bs t)
+    ∷ [])
+
+-- masks, zero bytes, defaults
+unfoldable pub tableRest : List ℕ → ℕ → Bool
+tableRest bs t =
+    every
+    (allFrom (maskRule bs (Fields.tableStart t + 3) (Fields.columnsOf bs t)) 6 0  -- NOT NULL, four unique keys, default-is-NULL
+    ∷ uniqueRule bs t 0
+    ∷ uniqueRule bs t 1
+    ∷ uniqueRule bs t 2
+    ∷ allFrom (isByte bs (Fields.tableStart t + 9) 0) 7 0  -- seven zero bytes
+    ∷ allFrom (defaultRule bs t) 8 0
+    ∷ [])
+
+unfoldable pub tableRules : List ℕ → ℕ → Bool
+tableRules bs t = sizeRules bs t && tableRest bs t
+
+-- ---- a foreign key record
+
+abbrev pub actionRule : ℕ → Bool
+actionRule c = leb c 4
+
+-- column i of those at `at` is below the table's columns
+unfoldable pub columnRule : List ℕ → ℕ → ℕ → ℕ → Bool
+columnRule bs at columns i = ltb (byte bs (at + i)) columns
+
+-- columns i and j of those at `at` differ
+abbrev pub differ : List ℕ → ℕ → ℕ → ℕ → Bool
+differ bs at i j = not (eqb (byte bs (at + i)) (byte bs (at + j)))
+
+-- column i is none of those before it
+unfoldable pub newColumn : List ℕ → ℕ → ℕ → Bool
+newColumn bs at i = allFrom (differ bs at i) i 0
+
+-- of four columns at `at`, the first n are distinct, and those past n are 255
+unfoldable pub columnsRule : List ℕ → ℕ → ℕ → Bool
+columnsRule bs at n = allFrom (newColumn bs at) n 0 && allFrom (isByte bs at 255) (4 - n) n
+
+-- child table, deferred, actions, column count
+unfoldable pub codeRules : List ℕ → ℕ → Bool
+codeRules bs k =
+    every
+    (ltb (Fields.childOf bs k) (Fields.tableCount bs)
+    ∷ leb (Fields.deferredOf bs k) 1
+    ∷ actionRule (Fields.onDeleteOf bs k)
+    ∷ actionRule (Fields.onUpdateOf bs k)
+    ∷ within 1 4 (Fields.widthOf bs k)
+    ∷ [])
+
+-- columns, zero bytes
+unfoldable pub keyRest : List ℕ → ℕ → Bool
+keyRest bs k =
+    every
+    (allFrom (columnRule bs (Fields.keyStart bs k + 6) (Fields.columnsOf bs (Fields.childOf bs k))) (Fields.widthOf bs k) 0
+    ∷ columnsRule bs (Fields.keyStart bs k + 6) (Fields.widthOf bs k)  -- child columns
+    ∷ columnsRule bs (Fields.keyStart bs k + 10) (Fields.widthOf bs k)  -- parent columns
+    ∷ isByte bs (Fields.keyStart bs k) 0 14  -- two zero bytes
+    ∷ isByte bs (Fields.keyStart bs k) 0 15
+    ∷ [])
+
+unfoldable pub keyRules : List ℕ → ℕ → Bool
+keyRules bs k = codeRules bs k && keyRest bs k
+
+-- ---- refusal 1
+
+unfoldable pub wellFormed : List ℕ → Bool
+wellFormed bs =
+    headerRules bs
+    && allFrom (tableRules bs) (Fields.tableCount bs) 0
+    && allFrom (keyRules bs) (Fields.keyCount bs) 0
+
+-- ---- refusal 2
+
+-- column i of those at `at` is in the mask
+unfoldable pub inMask : List ℕ → ℕ → ℕ → ℕ → Bool
+inMask bs at m i = bit (byte bs (at + i)) m
+
+-- the n columns at `at`, which are distinct, are exactly those of the mask: as many as it has ones, and each in it
+unfoldable pub maskIs : List ℕ → ℕ → ℕ → ℕ → Bool
+maskIs bs at n m = eqb (ones m) n && allFrom (inMask bs at m) n 0
+
+-- the n columns at `at` are those of the parent table's unique key i
+unfoldable pub uniqueIs : List ℕ → ℕ → ℕ → ℕ → ℕ → Bool
+uniqueIs bs at n parent i = maskIs bs at n (Fields.uniqueOf bs parent i)
+
+unfoldable pub parentRules : List ℕ → ℕ → Bool
+parentRules bs k =
+    ltb (Fields.parentOf bs k) (Fields.tableCount bs)
+    && allFrom (columnRule bs (Fields.keyStart bs k + 10) (Fields.columnsOf bs (Fields.parentOf bs k))) (Fields.widthOf bs k) 0
+    && anyFrom (uniqueIs bs (Fields.keyStart bs k + 10) (Fields.widthOf bs k) (Fields.parentOf bs k)) 4 0
+
+-- ---- the answer
+
+unfoldable pub checkSchema : List ℕ → SchemaAnswer
+checkSchema bs = cond (wellFormed bs) (cond (allFrom (parentRules bs) (Fields.keyCount bs) 0) Accepted Unmatched) Malformed
+
+-- the paper's number of an answer; 0 is accepted
+abbrev pub numberOf : SchemaAnswer → ℕ
+numberOf Accepted = 0
+numberOf Malformed = 1
+numberOf Unmatched = 2

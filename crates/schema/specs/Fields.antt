@@ -1,0 +1,120 @@
+-- Schema bytes: where each field stands, and the schema that the bytes are. Little-endian; all fields unsigned except the defaults.
+-- Assumes nothing.
+use mathlib.Core.Bool.{Bool, cond}
+use mathlib.Core.List.{List}
+use Prim.Native.Nat.{ℕ, _+_, _*_}
+use lib.Dec.{eqb}
+use lib.IntN.{ℤ}
+use Rattle.schema.specs.Bytes.{byte, half, signedWord}
+use Rattle.schema.specs.declared.Action.{Action}
+use Rattle.schema.specs.declared.Action.the-variants.{NoAction, Restrict, SetNull, SetDefault, Cascade}
+use Rattle.schema.specs.Ranges.{listFrom}
+use Rattle.schema.specs.Records.{Table, ForeignKey, Schema}
+
+-- ---- the header, 16 bytes
+
+-- tables T
+abbrev pub tableCount : List ℕ → ℕ
+tableCount bs = half bs 4
+
+-- foreign keys F
+abbrev pub keyCount : List ℕ → ℕ
+keyCount bs = half bs 6
+
+-- journal room J in records
+abbrev pub roomOf : List ℕ → ℕ
+roomOf bs = half bs 12
+
+-- ---- a table record, 80 bytes
+
+abbrev pub tableStart : ℕ → ℕ
+tableStart t = 16 + 80 * t
+
+abbrev pub rowsOf : List ℕ → ℕ → ℕ
+rowsOf bs t = half bs (tableStart t)
+
+abbrev pub columnsOf : List ℕ → ℕ → ℕ
+columnsOf bs t = byte bs (tableStart t + 2)
+
+abbrev pub notNullOf : List ℕ → ℕ → ℕ
+notNullOf bs t = byte bs (tableStart t + 3)
+
+-- unique-key mask i, 0 to 3
+abbrev pub uniqueOf : List ℕ → ℕ → ℕ → ℕ
+uniqueOf bs t i = byte bs (tableStart t + 4 + i)
+
+abbrev pub defaultNullOf : List ℕ → ℕ → ℕ
+defaultNullOf bs t = byte bs (tableStart t + 8)
+
+-- the default of column c, 0 to 7
+abbrev pub defaultOf : List ℕ → ℕ → ℕ → ℤ
+defaultOf bs t c = signedWord bs (tableStart t + 16 + 8 * c)
+
+unfoldable pub tableFrom : List ℕ → ℕ → Table
+tableFrom bs t =
+    record {
+      rows = rowsOf bs t;
+      columns = columnsOf bs t;
+      notNull = notNullOf bs t;
+      uniques = listFrom (uniqueOf bs t) 4 0;
+      defaultNull = defaultNullOf bs t;
+      defaults = listFrom (defaultOf bs t) 8 0;
+    }
+
+-- ---- a foreign key record, 16 bytes
+
+abbrev pub keyStart : List ℕ → ℕ → ℕ
+keyStart bs k = 16 + 80 * tableCount bs + 16 * k
+
+abbrev pub childOf : List ℕ → ℕ → ℕ
+childOf bs k = byte bs (keyStart bs k)
+
+abbrev pub parentOf : List ℕ → ℕ → ℕ
+parentOf bs k = byte bs (keyStart bs k + 1)
+
+abbrev pub deferredOf : List ℕ → ℕ → ℕ
+deferredOf bs k = byte bs (keyStart bs k + 2)
+
+abbrev pub onDeleteOf : List ℕ → ℕ → ℕ
+onDeleteOf bs k = byte bs (keyStart bs k + 3)
+
+abbrev pub onUpdateOf : List ℕ → ℕ → ℕ
+onUpdateOf bs k = byte bs (keyStart bs k + 4)
+
+-- the column count n
+abbrev pub widthOf : List ℕ → ℕ → ℕ
+widthOf bs k = byte bs (keyStart bs k + 5)
+
+-- child column i, 0 to 3
+abbrev pub childColumnOf : List ℕ → ℕ → ℕ → ℕ
+childColumnOf bs k i = byte bs (keyStart bs k + 6 + i)
+
+-- parent column i, 0 to 3
+abbrev pub parentColumnOf : List ℕ → ℕ → ℕ → ℕ
+parentColumnOf bs k i = byte bs (keyStart bs k + 10 + i)
+
+-- 0 NO ACTION, 1 RESTRICT, 2 SET NULL, 3 SET DEFAULT, 4 CASCADE; the check refuses every other code
+unfoldable pub actionFrom : ℕ → Action
+actionFrom c = cond (eqb c 1) Restrict (cond (eqb c 2) SetNull (cond (eqb c 3) SetDefault (cond (eqb c 4) Cascade NoAction)))
+
+unfoldable pub keyFrom : List ℕ → ℕ → ForeignKey
+keyFrom bs k =
+    record {
+      child = childOf bs k;
+      parent = parentOf bs k;
+      deferred = eqb (deferredOf bs k) 1;
+      onDelete = actionFrom (onDeleteOf bs k);
+      onUpdate = actionFrom (onUpdateOf bs k);
+      childColumns = listFrom (childColumnOf bs k) (widthOf bs k) 0;
+      parentColumns = listFrom (parentColumnOf bs k) (widthOf bs k) 0;
+    }
+
+-- ---- the whole
+
+unfoldable pub schemaOf : List ℕ → Schema
+schemaOf bs =
+    record {
+      tables = listFrom (tableFrom bs) (tableCount bs) 0;
+      keys = listFrom (keyFrom bs) (keyCount bs) 0;
+      room = roomOf bs;
+    }

@@ -1,0 +1,19 @@
+// Schema bytes: the enums of the check's answer and of the actions. The definitions are in specs/, their laws in proofs/.
+
+// What follows a deletion or a change of a parent key.
+pub enum Action {
+    NoAction,
+    Restrict,
+    SetNull,
+    SetDefault,
+    Cascade,
+}
+
+// What the check of schema bytes finds.
+pub enum SchemaAnswer {
+    Accepted,
+    // Refusal 1: the bytes break a rule.
+    Malformed,
+    // Refusal 2: a parent table or column is missing, or there is no matching unique key.
+    Unmatched,
+}

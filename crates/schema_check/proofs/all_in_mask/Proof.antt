@@ -1,0 +1,63 @@
+use mathlib.Core.Path.{_≡_, refl, sym, ap, _∙_}
+use mathlib.Core.Bool.{Bool, true, false, _&&_}
+use Prim.Native.Nat.{ℕ, _+_, _-_, _≤_}
+use native.Mathlib.Omega.{arith}
+use borrow.Author.Needs.{needs}
+use borrow.Author.Tests.{not-true, not-false, lt-leb, le-leb}
+use lib.ListN.{length}
+use Rattle.schema.specs.Ranges.{allFrom}
+use Rattle.schema.specs.Check.{inMask}
+use Rattle.schema.proofs.RangeLaws.{all-start, all-none, all-stop, all-go}
+use Rattle.schema_check.proofs.all_in_mask.Statement.{statement}
+use Rattle.schema_check.proofs.all_in_mask.Tie as tie
+use Rattle.schema_check.proofs.all_in_mask.Reads as reads
+use Rattle.schema_check.proofs.all_in_mask.Lts as lts
+use Rattle.schema_check.proofs.in_mask.Reads as in-mask-reads
+
+abbrev Inv-loop : tie.InvT-loop
+Inv-loop s at m n i₀ i = (i ≤ n) × (allFrom (inMask s at m) n 0 ≡ allFrom (inMask s at m) (n - i) i)
+
+abbrev μ-loop : tie.MeasureT-loop
+μ-loop s at m n i₀ i = n - i
+
+-- src/lib.rt:420:5
+loop-holds : tie.Need-loop-holds Inv-loop μ-loop
+loop-holds c = (search needs, all-start _ _)
+
+-- src/lib.rt:421:13
+in-mask-requires : tie.Need-in-mask-requires Inv-loop μ-loop
+in-mask-requires c κs = search needs
+
+-- src/lib.rt:422:13
+returns : tie.Need-returns Inv-loop μ-loop
+returns c = sym (c .before .before .before .loop .inv .1 ∙ all-stop _ _ _ (c .before .before .loop-test .taken) (sym (c .before .in-mask .ensures) ∙ not-true _ (c .if1 .taken)))
+
+-- src/lib.rt:424:9
+add-i : tie.Need-add-i Inv-loop μ-loop
+add-i c = search needs
+
+-- src/lib.rt:420:5
+loop-less : tie.Need-loop-less Inv-loop μ-loop
+loop-less c = search needs
+
+-- src/lib.rt:420:5
+loop-again : tie.Need-loop-again Inv-loop μ-loop
+loop-again c = (search needs, c .before .before .before .loop .inv .1 ∙ all-go _ _ _ (c .before .before .loop-test .taken) (sym (c .before .in-mask .ensures) ∙ not-false _ (c .if1 .left)))
+
+-- src/lib.rt:415:1
+returns-2 : tie.Need-returns-2 Inv-loop μ-loop
+returns-2 c = sym (c .before .loop .inv .1 ∙ all-none _ _ _ (c .loop-test .left))
+
+pub all-in-mask-spec : {M : Type 1} → statement M
+all-in-mask-spec =
+    tie.close
+    (tie.spec
+    Inv-loop
+    μ-loop
+    loop-holds
+    in-mask-requires
+    returns
+    add-i
+    loop-less
+    loop-again
+    returns-2)

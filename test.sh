@@ -1,0 +1,57 @@
+#!/usr/bin/env bash
+# Proves every crate, then tests the engine. The last line counts both: 'N passed, M failed'.
+set -uo pipefail
+cd "$(dirname "$0")" || exit 1
+
+passed=0
+failed=0
+
+# Prints why nothing more is run, and the count with at least one failure.
+stop() {
+    echo "test.sh: $1" >&2
+    [ "$failed" -gt 0 ] || failed=1
+    echo "$passed passed, $failed failed"
+    exit 1
+}
+
+# Runs a command, shows what it prints, and adds its last line, 'N passed, M failed', to the count.
+counted() {
+    local status last
+    "$@" 2>&1 | tee "$log"
+    status=$?
+    last=$(tail -n 1 "$log")
+    if [[ $last =~ ^([0-9]+)\ passed,\ ([0-9]+)\ failed$ ]]; then
+        passed=$((passed + BASH_REMATCH[1]))
+        failed=$((failed + BASH_REMATCH[2]))
+        return "$status"
+    fi
+    return 1
+}
+
+# Installs Debian's cargo, rustc and gcc where one of them is missing.
+install_rust() {
+    local tool missing='' as_root=()
+    for tool in cargo rustc gcc; do
+        command -v "$tool" >/dev/null || missing="$missing $tool"
+    done
+    [ -n "$missing" ] || return 0
+    echo "test.sh: installing Debian's packages, missing are:$missing"
+    [ "$(id -u)" -eq 0 ] || as_root=(sudo)
+    "${as_root[@]}" apt-get update && "${as_root[@]}" env DEBIAN_FRONTEND=noninteractive \
+        apt-get install -y --no-install-recommends cargo rustc gcc libc6-dev
+}
+
+command -v rt >/dev/null || stop "rt is not on the PATH: the Rattle kit is needed"
+install_rust || stop "cargo, rustc and gcc are needed, and apt-get could not install them"
+log=$(mktemp) || stop "no temporary file can be made"
+trap 'rm -f "$log"' EXIT
+
+counted rt ci || stop "rt ci failed: the tests were not run"
+rt staticlib capi || stop "rt staticlib capi failed: the tests were not run"
+
+export CARGO_TARGET_DIR=$PWD/target/tests CARGO_HOME=$PWD/target/tests/home
+(cd tests && cargo build --release --offline --locked) || stop "the tests were not built"
+counted target/tests/release/hoofbook-tests || stop "the tests failed"
+
+[ "$failed" -eq 0 ] || stop "something failed"
+echo "$passed passed, $failed failed"

@@ -1,0 +1,54 @@
+//! Tests of the record engine. Each suite reports its tests by name; the last line counts them.
+
+mod breaks;
+mod breaks_header;
+mod breaks_keys;
+mod breaks_parents;
+mod breaks_tables;
+mod engine;
+mod harmless;
+mod random;
+mod report;
+mod schema_changed;
+mod schema_mistakes;
+mod schema_model;
+mod schema_records;
+mod schema_view;
+mod schemas;
+mod slices;
+mod suite_schema;
+
+use random::Random;
+use report::Report;
+use std::process::ExitCode;
+
+const DEFAULT_SEED: u64 = 0x686F_6F66;
+
+/// The suites, in the order in which they run.
+const SUITES: &[fn(&mut Random, &mut Report)] = &[suite_schema::run];
+
+/// The number in the environment variable SEED, if it is set.
+fn seed() -> Result<u64, String> {
+    match std::env::var("SEED") {
+        Ok(text) => text
+            .parse()
+            .map_err(|_| format!("SEED is not a number below 2^64: {}", text)),
+        Err(_) => Ok(DEFAULT_SEED),
+    }
+}
+
+fn main() -> ExitCode {
+    let seed = match seed() {
+        Ok(seed) => seed,
+        Err(message) => {
+            eprintln!("{}", message);
+            return ExitCode::FAILURE;
+        }
+    };
+    println!("SEED={}", seed);
+    let mut report = Report::default();
+    for suite in SUITES {
+        suite(&mut Random::new(seed), &mut report);
+    }
+    report.finish()
+}
