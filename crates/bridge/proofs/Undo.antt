@@ -16,7 +16,9 @@ use Rattle.rules.specs.Calls.{inTable}
 use Rattle.rules.specs.Change.{Result, go, stop, then, given, Change, taken, rowTurn, children, keyTurn, actions, admits, admitted, change}
 use Rattle.rules.specs.Keys.{fires}
 use Rattle.rules.specs.Lists.{𝟘, padded, upFrom}
-use Rattle.rules.specs.Refusals.{Verdict, pass, fail, failing, number}
+use Rattle.rules.specs.Refusals.{failing, number}
+use Rattle.rules.specs.declared.Verdict.{Verdict}
+use Rattle.rules.specs.declared.Verdict.the-variants.{Pass, Fail}
 use Rattle.rules.specs.Rows.{Row, Tables, rowAt, image, putRow, overwrite}
 use Rattle.rules.specs.State.{placed}
 use Rattle.rules.specs.declared.Refusal.{Refusal}
@@ -133,26 +135,26 @@ unfolding given
 fine-given true k p = p
 fine-given false k p = went (nothing _)
 
-fine-admitted : {s : Schema} {w : Work} (v : Verdict) (k : Work → Result) → ((c : Refusal) → v ≡ fail c → ofChange c ≡ true) → (v ≡ pass → Fine s w (k w)) → Fine s w (admitted v k w)
+fine-admitted : {s : Schema} {w : Work} (v : Verdict) (k : Work → Result) → ((c : Refusal) → v ≡ Fail c → ofChange c ≡ true) → (v ≡ Pass → Fine s w (k w)) → Fine s w (admitted v k w)
 unfolding admitted
-fine-admitted pass k h p = p refl
-fine-admitted (fail c) k h p = stopped (h c refl) (nothing _)
+fine-admitted Pass k h p = p refl
+fine-admitted (Fail c) k h p = stopped (h c refl) (nothing _)
 
 -- what a failed check says: nothing of a verdict that passes
 abbrev codeOf : Verdict → Refusal
-codeOf pass = TooDeep
-codeOf (fail c) = c
+codeOf Pass = TooDeep
+codeOf (Fail c) = c
 
-failing-code : (b : Bool) (c d : Refusal) (v : Verdict) → ofChange c ≡ true → ((d : Refusal) → v ≡ fail d → ofChange d ≡ true) → failing b c v ≡ fail d → ofChange d ≡ true
+failing-code : (b : Bool) (c d : Refusal) (v : Verdict) → ofChange c ≡ true → ((d : Refusal) → v ≡ Fail d → ofChange d ≡ true) → failing b c v ≡ Fail d → ofChange d ≡ true
 unfolding failing
 failing-code true c d v h k e = rw (← (ap codeOf e)) h
 failing-code false c d v h k e = k d e
 
 abbrev failed : Verdict → Bool
-failed pass = false
-failed (fail c) = true
+failed Pass = false
+failed (Fail c) = true
 
-admits-code : (s : Schema) (t r : ℕ) (new : Row) (w : Work) (c : Refusal) → admits s t r new w ≡ fail c → ofChange c ≡ true
+admits-code : (s : Schema) (t r : ℕ) (new : Row) (w : Work) (c : Refusal) → admits s t r new w ≡ Fail c → ofChange c ≡ true
 unfolding admits ofChange number
 admits-code s t r new w c e =
     failing-code _ JournalFull c _ refl
@@ -160,12 +162,12 @@ admits-code s t r new w c e =
     e
 
 -- a change that is admitted has a spare record
-spared-go : (n : ℕ) (v : Verdict) → failing (eqb n 0) JournalFull v ≡ pass → 0 < n
+spared-go : (n : ℕ) (v : Verdict) → failing (eqb n 0) JournalFull v ≡ Pass → 0 < n
 unfolding failing
 spared-go zero v h = absurd (false≢true (sym (ap failed h)))
 spared-go (suc n) v h = omega arith
 
-pub spared : (s : Schema) (t r : ℕ) (new : Row) (w : Work) → admits s t r new w ≡ pass → 0 < length (w .spare)
+pub spared : (s : Schema) (t r : ℕ) (new : Row) (w : Work) → admits s t r new w ≡ Pass → 0 < length (w .spare)
 unfolding admits
 spared s t r new w e = spared-go (length (w .spare)) _ e
 

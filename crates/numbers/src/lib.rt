@@ -59,7 +59,15 @@ pub fn signed_at(s: &[u8], i: usize) -> i64
     signed(word_at(s, i))
 }
 
-// Bit i of a mask.
+// Bit i of a number.
+pub fn bit_of(i: usize, m: usize) -> bool
+    requires { ⌜ i < 64 ⌝ }
+    ensures { λ r. ⌜ r ≡ bit i m ⌝ }
+{
+    (m >> i) % 2 == 1
+}
+
+// Bit i of a mask, whatever i is.
 pub fn is_bit(m: usize, i: usize) -> bool
     requires { ⌜ m < 256 ⌝ }
     ensures { λ r. ⌜ r ≡ bit i m ⌝ }
@@ -67,7 +75,7 @@ pub fn is_bit(m: usize, i: usize) -> bool
     if 64 <= i {
         return false;
     }
-    (m >> i) % 2 == 1
+    bit_of(i, m)
 }
 
 // Where the record of foreign key k begins.

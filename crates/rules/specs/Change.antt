@@ -13,7 +13,9 @@ use Rattle.schema.specs.Records.{Table, ForeignKey, Schema, tableOf}
 use Rattle.rules.specs.declared.Refusal.{Refusal}
 use Rattle.rules.specs.declared.Refusal.the-variants.{TooDeep, JournalFull, NotNull, NotUnique, Restricted}
 use Rattle.rules.specs.Lists.{𝟘, any, upFrom}
-use Rattle.rules.specs.Refusals.{Verdict, pass, fail, failing}
+use Rattle.rules.specs.Refusals.{failing}
+use Rattle.rules.specs.declared.Verdict.{Verdict}
+use Rattle.rules.specs.declared.Verdict.the-variants.{Pass, Fail}
 use Rattle.rules.specs.Rows.{Row, rowAt, image, deletedImage, live, nullAt, valueAt, maskOf, normal}
 use Rattle.rules.specs.Keys.{sameKey, fullKey, maskColumns, takes, fires}
 use Rattle.rules.specs.Book.{Work, write}
@@ -55,11 +57,11 @@ unfoldable pub admits : Schema → ℕ → ℕ → Row → Work → Verdict
 admits s t r new w =
     failing (eqb (length (w .spare)) 0) JournalFull
     (failing (live new && notNullBroken (tableOf s t) new) NotNull
-    (failing (live new && uniqueBroken (tableOf s t) r new (getD (w .tabs) t [])) NotUnique pass))
+    (failing (live new && uniqueBroken (tableOf s t) r new (getD (w .tabs) t [])) NotUnique Pass))
 
 unfoldable pub admitted : Verdict → (Work → Result) → Work → Result
-admitted pass k w = k w
-admitted (fail c) k w = stop c w
+admitted Pass k w = k w
+admitted (Fail c) k w = stop c w
 
 -- ---- the image that an action gives a child row
 

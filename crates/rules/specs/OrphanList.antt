@@ -18,7 +18,9 @@ use Rattle.rules.specs.declared.Orphan.{Orphan}
 use Rattle.rules.specs.declared.Listing.{Listing}
 use Rattle.rules.specs.declared.Listing.the-variants.{Listed, NotListed}
 use Rattle.rules.specs.Lists.{count, one}
-use Rattle.rules.specs.Refusals.{Verdict, pass, fail, failing, number}
+use Rattle.rules.specs.Refusals.{failing, number}
+use Rattle.rules.specs.declared.Verdict.{Verdict}
+use Rattle.rules.specs.declared.Verdict.the-variants.{Pass, Fail}
 use Rattle.rules.specs.Rows.{Tables, rowAt}
 use Rattle.rules.specs.Keys.{orphan, orphans}
 use Rattle.rules.specs.State.{undamaged}
@@ -45,8 +47,8 @@ pub record HoldsOrphans (s : Schema) (tabs : Tables) (before after : List Orphan
 
 unfoldable pub schemaVerdict : SchemaAnswer → Verdict → Verdict
 schemaVerdict Accepted v = v
-schemaVerdict Malformed v = fail SchemaMalformed
-schemaVerdict Unmatched v = fail SchemaUnmatched
+schemaVerdict Malformed v = Fail SchemaMalformed
+schemaVerdict Unmatched v = Fail SchemaUnmatched
 
 -- "Checks: 1, 2, 3, 10, 22."
 unfoldable pub listVerdict : List ℕ → List ℤ → ℕ → Verdict
@@ -55,11 +57,11 @@ listVerdict bs ws room =
     schemaVerdict (checkSchema bs)
     (failing (not (eqb (length ws) (areaSize s))) WrongLength
     (failing (not (legible s ws && undamaged s (view s ws))) Damaged
-    (failing (ltb room (orphanTotal (s .keys) (view s ws .work .tabs))) ListTooShort pass)))
+    (failing (ltb room (orphanTotal (s .keys) (view s ws .work .tabs))) ListTooShort Pass)))
 
 unfoldable pub listed : Verdict → ℕ → Listing
-listed pass n = Listed n
-listed (fail r) n = NotListed r
+listed Pass n = Listed n
+listed (Fail r) n = NotListed r
 
 -- the answer, where the lent list has `room` records
 unfoldable pub listAnswer : List ℕ → List ℤ → ℕ → Listing

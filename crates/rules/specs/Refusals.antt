@@ -6,6 +6,8 @@ use lib.IntN.{ℤ}
 use Rattle.rules.specs.Lists.{𝟘}
 use Rattle.rules.specs.declared.Refusal.{Refusal}
 use Rattle.rules.specs.declared.Refusal.the-variants.{SchemaMalformed, SchemaUnmatched, WrongLength, BadCall, Damaged, RowState, LevelState, LevelsFull, TooDeep, JournalFull, NotNull, NotUnique, Restricted, KeptOutOfRange, OrphansLeft, CommitWithOrphans, ListTooShort}
+use Rattle.rules.specs.declared.Verdict.{Verdict}
+use Rattle.rules.specs.declared.Verdict.the-variants.{Fail}
 use Rattle.rules.specs.declared.Answer.{Answer}
 use Rattle.rules.specs.declared.Answer.the-variants.{Done, Refused}
 
@@ -39,10 +41,6 @@ accepted (Done changed net) = true
 accepted (Refused r) = false
 
 -- checks in an order: the first that fails refuses
-pub data Verdict : Type 0 where
-  pass : Verdict
-  fail : Refusal → Verdict
-
 unfoldable pub failing : Bool → Refusal → Verdict → Verdict
-failing true c v = fail c
+failing true c v = Fail c
 failing false c v = v

@@ -38,6 +38,12 @@ pub enum Refusal {
     ListTooShort,
 }
 
+// Whether checks pass, or which one refuses.
+pub enum Verdict {
+    Pass,
+    Fail(Refusal),
+}
+
 // The answer to a call: rows changed and net change in all kept orphans, or a refusal.
 pub enum Answer {
     Done(usize, i64),

@@ -3,7 +3,6 @@ use mathlib.Core.Bool.{Bool, true, false, not, _&&_}
 use Prim.Native.Nat.{ℕ, _+_, _-_, _≤_}
 use native.Mathlib.Omega.{arith}
 use borrow.Author.Tests.{not-true, not-false, lt-leb, le-leb}
-use Rattle.schema.specs.Bytes.{bit}
 use Rattle.schema.proofs.MaskLaws.{bit-high}
 use borrow.Author.Needs.{needs}
 use Rattle.numbers.proofs.is_bit.Statement.{statement}
@@ -11,18 +10,14 @@ use Rattle.numbers.proofs.is_bit.Tie as tie
 use Rattle.numbers.proofs.is_bit.Reads as reads
 use Rattle.numbers.proofs.is_bit.Lts as lts
 
--- src/lib.rt:85:9
 returns : tie.Need-returns
 returns c = sym (bit-high _ _ (c .before .pre) (c .if1 .taken))
 
--- src/lib.rt:87:6
-shr-result : tie.Need-shr-result
-shr-result c = search needs
+bit-of-requires : tie.Need-bit-of-requires
+bit-of-requires c κs = search needs
 
--- src/lib.rt:80:1
 returns-2 : tie.Need-returns-2
-unfolding bit
-returns-2 c = search needs
+returns-2 c = c .bit-of .ensures
 
 pub is-bit-spec : {M : Type 1} → statement M
-is-bit-spec = tie.close (tie.spec returns shr-result returns-2)
+is-bit-spec = tie.close (tie.spec returns bit-of-requires returns-2)

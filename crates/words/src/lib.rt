@@ -1,0 +1,100 @@
+// Words of the area: the only signed operations, rows written and fetched.
+ghost use mathlib.Core.Path.{_≡_};
+ghost use mathlib.Core.Bool.{Bool, true, false};
+ghost use mathlib.Core.List.{List, _++_};
+ghost use Prim.Native.Nat.{ℕ, _+_, _*_, _-_, _^_, _≤_, _<_};
+ghost use lib.IntN.{ℤ, pos};
+ghost use lib.ListN.{length, getD, take, drop, replicate};
+ghost use lib.Seq.{sets};
+ghost use Rattle.rules.specs.Lists.{padded};
+ghost use Rattle.rules.specs.Values.{natOf, sameValue};
+
+// A word as a number; 0 where it is negative.
+pub fn nat_of(w: i64) -> usize
+    ensures { λ r. ⌜ r ≡ natOf w ⌝ }
+{
+    if w < 0 {
+        return 0;
+    }
+    w as usize
+}
+
+// A number as a word.
+pub fn word_of(n: usize) -> i64
+    requires { ⌜ n < 2 ^ 63 ⌝ }
+    ensures { λ r. ⌜ r ≡ pos n ⌝ }
+{
+    n as i64
+}
+
+// Whether two words are the sameValue number.
+pub fn same_word(a: i64, b: i64) -> bool
+    ensures { λ r. ⌜ r ≡ sameValue a b ⌝ }
+{
+    a == b
+}
+
+// The word at i as a number; 0 where it is negative.
+pub fn nat_at(area: &[i64], i: usize) -> usize
+    requires { ⌜ i < length (now area) ⌝ }
+    ensures { λ r. ⌜ r ≡ natOf (getD (now (area .entry)) i (pos 0)) ⌝ }
+{
+    nat_of(area[i])
+}
+
+// Writes the first `count` words of an image, its state and its values, at `at` of the table.
+pub fn put_row(table: &mut [i64], at: usize, image: [i64; 9], count: usize)
+    requires { ⌜ (at + count ≤ length (now table)) × (count ≤ 9) ⌝ }
+    ensures { λ _. ⌜ now (table .exit) ≡ sets (now (table .entry)) at (take count image) ⌝ }
+{
+    let mut k = 0;
+    while k < count {
+        let v = image[k];
+        table[at + k] = v;
+        k += 1;
+    }
+}
+
+// Zeroes the words from `from` on.
+pub fn clear_from(area: &mut [i64], from: usize)
+    requires { ⌜ from ≤ length (now area) ⌝ }
+    ensures { λ _. ⌜ now (area .exit) ≡ take from (now (area .entry)) ++ replicate (length (now (area .entry)) - from) (pos 0) ⌝ }
+{
+    let n = area.len();
+    let mut i = from;
+    while i < n {
+        area[i] = 0;
+        i += 1;
+    }
+}
+
+// Writes row r of the table that stands from `start` to `end`, through the table's part of the area.
+pub fn write_row(
+    area: &mut [i64],
+    start: usize,
+    end: usize,
+    stride: usize,
+    r: usize,
+    image: [i64; 9],
+)
+    requires { ⌜ (start + (r * stride + stride) ≤ end) × ((end ≤ length (now area)) × (stride ≤ 9)) ⌝ }
+    ensures { λ _. ⌜ now (area .exit) ≡ sets (now (area .entry)) (start + r * stride) (take stride image) ⌝ }
+{
+    let at = r * stride;
+    put_row(&mut area[start..end], at, image, stride);
+}
+
+// The image of the row of `width` words at p.
+pub fn image_at(area: &[i64], p: usize, width: usize) -> [i64; 9]
+    requires { ⌜ (p + width ≤ length (now area)) × (width ≤ 9) ⌝ }
+    ensures { λ r. ⌜ r ≡ padded 9 (take width (drop p (now (area .entry)))) ⌝ }
+{
+    let mut image = [0i64; 9];
+    let mut k = 0;
+    while k < width {
+        let v = area[p + k];
+        image[k] = v;
+        k += 1;
+    }
+    image
+}
