@@ -5,7 +5,7 @@ use mathlib.Core.List.{List, [], _∷_}
 use Prim.Native.Nat.{ℕ}
 use lib.IntN.{pos}
 use lib.Count.{ones, onesIn}
-use lib.ListN.{replicate}
+use lib.ListN.{replicate, set}
 use Rattle.schema.specs.declared.Action.the-variants.{Cascade}
 use Rattle.schema.specs.declared.SchemaAnswer.the-variants.{Accepted, Malformed, Unmatched}
 use Rattle.schema.specs.Ranges.{allFrom, anyFrom, andAll, every, listFrom}
@@ -55,3 +55,13 @@ s-is = refl
 pub s-size : Sizes.areaSize schemaS ≡ 433
 unfolding Sizes.areaSize Sizes.rowsSize Sizes.tableSize schemaS
 s-size = refl
+
+-- journal room 0 and parent table 9: both refusals would be right, and 1 comes first
+pub broken-twice : checkSchema (set (set bytesS 12 0) 177 9) ≡ Malformed
+unfolding checkSchema Check.wellFormed Check.headerRules Check.startsWith Check.headerRest allFrom every andAll bytesS
+broken-twice = refl
+
+-- parent table 9 alone
+pub unmatched : checkSchema (set bytesS 177 9) ≡ Unmatched
+unfolding checkSchema Check.wellFormed Check.headerRules Check.startsWith Check.headerRest Check.tableRules Check.sizeRules Check.tableRest Check.maskRule Check.keyRules Check.codeRules Check.keyRest Check.columnRule Check.columnsRule Check.newColumn Check.parentRules Check.uniqueIs Check.maskIs Check.inMask Bytes.bit allFrom anyFrom every andAll ones onesIn bytesS
+unmatched = refl
