@@ -11,3 +11,4 @@ pub mod RowWords
 pub mod UndoWords
 pub mod ClearWords
 pub mod Bits
+pub mod HoldLaws

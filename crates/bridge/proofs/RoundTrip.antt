@@ -218,7 +218,7 @@ module _ {s : Schema} {b : Book} (g : Formed s b) where
   unfoldable pub recordList : List (List ℤ)
   recordList = map entryWords (reverse (b .work .used)) ++ b .work .spare
 
-  levels-sized : all (of-size 33) levelList ≡ true
+  pub levels-sized : all (of-size 33) levelList ≡ true
   unfolding levelList
   levels-sized =
       all-append (of-size 33) (map levelWords (reverse (b .levels))) (b .closed)

@@ -123,10 +123,10 @@ module _ {A : Type 0} where
   pub splice-right : (xs : List A) (n : ℕ) (ys ws : List A) → splice (length xs + n) ys (xs ++ ws) ≡ xs ++ splice n ys ws
   splice-right xs n ys ws = rw (add-assoc (length xs) n (length ys), take-append-add, drop-append-add) (append-assoc xs (take n ws) (ys ++ drop (n + length ys) ws))
 
-  splice-left : (xs : List A) (n : ℕ) (ys ws : List A) → n + length ys ≤ length xs → splice n ys (xs ++ ws) ≡ splice n ys xs ++ ws
+  pub splice-left : (xs : List A) (n : ℕ) (ys ws : List A) → n + length ys ≤ length xs → splice n ys (xs ++ ws) ≡ splice n ys xs ++ ws
   splice-left xs n ys ws h = rw (take-append-le n xs ws (omega arith), drop-append-le (n + length ys) xs ws h) (simp append-assoc)
 
-  splice-whole : (xs ys : List A) → length ys ≡ length xs → splice 0 ys xs ≡ ys
+  pub splice-whole : (xs ys : List A) → length ys ≡ length xs → splice 0 ys xs ≡ ys
   splice-whole xs ys h = rw (zero-add, h, drop-length xs) (append-nil ys)
 
   -- a part of a part

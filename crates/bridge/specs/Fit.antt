@@ -7,7 +7,7 @@ use lib.IntN.{ℤ}
 use lib.ListN.{length}
 use Rattle.schema.specs.Records.{Schema}
 use Rattle.schema.specs.Sizes.{areaSize}
-use Rattle.rules.specs.Book.{Work, withWork}
+use Rattle.rules.specs.Book.{Work, Book, withWork}
 use Rattle.rules.specs.Area.{legible, view}
 
 -- what a statement works on, in an area's words
@@ -23,3 +23,8 @@ pub record Fit (s : Schema) (a : List ℤ) : Type 0 where
 pub record Keeps (s : Schema) (a a′ : List ℤ) : Type 0 where
   pub fit : Fit s a′
   pub rest : view s a′ ≡ withWork (workOf s a′) (view s a)
+
+-- the area's words are the book b
+pub record Holds (s : Schema) (a : List ℤ) (b : Book) : Type 0 where
+  pub fit : Fit s a
+  pub is : view s a ≡ b

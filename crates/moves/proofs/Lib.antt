@@ -2,3 +2,4 @@ pub mod ExceptLaws
 pub mod Stranded
 pub mod Moved
 pub mod Telescope
+pub mod TallyLaws

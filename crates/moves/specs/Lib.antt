@@ -1,1 +1,2 @@
 pub mod Movement
+pub mod Tally

@@ -98,3 +98,43 @@ pub fn image_at(area: &[i64], p: usize, width: usize) -> [i64; 9]
     }
     image
 }
+
+// The 32 numbers at p.
+pub fn numbers_at(area: &[i64], p: usize) -> [i64; 32]
+    requires { ⌜ p + 32 ≤ length (now area) ⌝ }
+    ensures { λ r. ⌜ r ≡ take 32 (drop p (now (area .entry))) ⌝ }
+{
+    let mut numbers = [0i64; 32];
+    let mut k = 0;
+    while k < 32 {
+        let v = area[p + k];
+        numbers[k] = v;
+        k += 1;
+    }
+    numbers
+}
+
+// Writes 32 numbers at p.
+pub fn put_numbers(area: &mut [i64], p: usize, numbers: [i64; 32])
+    requires { ⌜ p + 32 ≤ length (now area) ⌝ }
+    ensures { λ _. ⌜ now (area .exit) ≡ sets (now (area .entry)) p numbers ⌝ }
+{
+    let mut k = 0;
+    while k < 32 {
+        let v = numbers[k];
+        area[p + k] = v;
+        k += 1;
+    }
+}
+
+// Zeroes `count` words from `from` on.
+pub fn clear_part(area: &mut [i64], from: usize, count: usize)
+    requires { ⌜ from + count ≤ length (now area) ⌝ }
+    ensures { λ _. ⌜ now (area .exit) ≡ sets (now (area .entry)) from (replicate count (pos 0)) ⌝ }
+{
+    let mut k = 0;
+    while k < count {
+        area[from + k] = 0;
+        k += 1;
+    }
+}

@@ -1,0 +1,87 @@
+use mathlib.Core.Path.{_≡_, refl, sym, ap, ap₂, _∙_}
+use mathlib.Core.List.{List, _∷_}
+use Prim.Native.Nat.{ℕ, suc, _+_, _-_, _*_}
+use native.Mathlib.Numerals.{add-one}
+use native.Mathlib.Omega.{arith}
+use lib.IntN.{ℤ, pos}
+use lib.ListN.{length, getD, set, take, drop, replicate, length-set}
+use lib.Seq.{sets}
+use mir.Syntax.{w64}
+use mir.Val.{toZ, ofZ}
+use Rattle.words.proofs.Signed.{back}
+use Rattle.rules.specs.Values.{natOf}
+use borrow.Author.Needs.{needs}
+use Rattle.levels.proofs.open_level.Statement.{statement}
+use Rattle.levels.proofs.open_level.Tie as tie
+use Rattle.levels.proofs.open_level.Reads as reads
+use Rattle.levels.proofs.open_level.Lts as lts
+use Rattle.levels.proofs.put_level.Reads as put-level-reads
+use Rattle.words.proofs.nat_at.Reads as nat-at-reads
+use Rattle.words.proofs.numbers_at.Reads as numbers-at-reads
+use Rattle.words.proofs.word_of.Reads as word-of-reads
+
+-- src/lib.rt:24:9
+nat-at-requires : tie.Need-nat-at-requires
+nat-at-requires c κs = search needs
+
+-- src/lib.rt:25:9
+nat-at-requires-2 : tie.Need-nat-at-requires-2
+nat-at-requires-2 c κs = search needs
+
+-- src/lib.rt:26:9
+numbers-at-requires : tie.Need-numbers-at-requires
+numbers-at-requires c κs = search needs
+
+-- src/lib.rt:27:26
+mul-put-level : tie.Need-mul-put-level
+mul-put-level c = search needs
+
+-- src/lib.rt:27:21
+add-put-level : tie.Need-add-put-level
+add-put-level c = search needs
+
+-- src/lib.rt:27:5
+put-level-requires : tie.Need-put-level-requires
+put-level-requires c κs = search needs
+
+-- src/lib.rt:28:30
+add-word-of : tie.Need-add-word-of
+add-word-of c = search needs
+
+-- src/lib.rt:28:15
+word-of-requires : tie.Need-word-of-requires
+word-of-requires c κs = search needs
+
+-- src/lib.rt:28:5
+slice-set-from-area : tie.Need-slice-set-from-area
+slice-set-from-area c = search needs
+
+-- src/lib.rt:20:1
+same-length : tie.Need-same-length
+same-length c = search needs
+
+-- src/lib.rt:20:1
+returns : tie.Need-returns
+returns c =
+    let a : List ℤ = c .before .before .before .before .before .before .before .before .before .before .args .area .now in
+    ap₂ (λ (l : List ℤ) (z : ℤ). set l 0 z)
+    (c .before .before .put-level .ensures
+    ∙ ap₂ (λ (n u : ℕ). sets a (36 + n * 33) (pos u ∷ c .before .before .before .before .numbers-at .result)) (c .before .before .before .before .before .before .before .before .nat-at .ensures) (c .before .before .before .before .before .before .nat-at2 .ensures)
+    ∙ ap (λ (k : List ℤ). sets a (36 + natOf (getD a 0 (pos 0)) * 33) (pos (natOf (getD a 2 (pos 0))) ∷ k)) (c .before .before .before .before .numbers-at .ensures))
+    ((back _ (c .word-of .ok) ∙ c .word-of .ensures) ∙ ap (λ (n : ℕ). pos (n + 1)) (c .before .before .before .before .before .before .before .before .nat-at .ensures))
+
+pub open-level-spec : {M : Type 1} → statement M
+open-level-spec =
+    tie.close
+    (tie.spec
+    nat-at-requires
+    nat-at-requires-2
+    numbers-at-requires
+    mul-put-level
+    add-put-level
+    put-level-requires
+    add-word-of
+    word-of-requires
+    slice-set-from-area
+    same-length
+    returns)
