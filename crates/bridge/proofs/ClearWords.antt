@@ -1,30 +1,27 @@
 -- A refused statement, by an area's words.
 -- Assumes nothing.
-use mathlib.Core.Path.{_≡_, refl, sym, _∙_, ap, ap₂, subst}
-use mathlib.Core.Bool.{Bool, true, false}
+use mathlib.Core.Path.{_≡_, refl, sym, _∙_, ap, ap₂}
+use mathlib.Core.Bool.{true}
 use mathlib.Core.List.{List, [], _∷_, _++_, map, reverse, append-assoc}
-use Prim.Native.Nat.{ℕ, zero, suc, _+_, _-_, _*_, _≤_, _<_}
+use Prim.Native.Nat.{ℕ, _+_, _-_, _*_, _≤_}
 use native.Mathlib.Omega.{arith}
-use lib.Dec.{eqb}
 use lib.IntN.{ℤ, pos}
-use lib.ListN.{length, getD, take, drop, replicate, length-append, length-map, length-reverse, length-replicate}
-use lib.Seq.{take-append-seam, take-at}
-use Rattle.bridge.proofs.JournalWords.{journalStart, flat-sized}
-use Rattle.bridge.proofs.RoundTrip.{Formed, levelList, recordList, records-sized, records-count, of-size, levels-length, tables-are, flat-zeros}
-use Rattle.bridge.proofs.RowWords.{formed-fit, use-is}
+use lib.ListN.{length, getD, set, take, replicate, length-append, length-map, length-reverse, length-replicate}
+use lib.Seq.{take-at}
+use Rattle.bridge.proofs.JournalWords.{records, flat-sized}
+use Rattle.bridge.proofs.RoundTrip.{Formed, levelList, recordList, records-sized, levels-length, tables-are, all-zeros, flat-zeros}
+use Rattle.bridge.proofs.RowWords.{formed-fit, use-is, keeps-words}
 use Rattle.bridge.proofs.Tests.{all-append}
 use Rattle.bridge.proofs.Undo.{Undoes, Fine, went, stopped, put-back-all}
 use Rattle.bridge.proofs.Views.{words-view}
 use Rattle.bridge.specs.Fit.{workOf, Fit, Keeps}
-use Rattle.rules.specs.Area.{levelWords, entryWords, words, view, legible}
-use Rattle.rules.specs.Book.{Entry, Work, Book, undoTo, cleared, zeroRecords, withWork}
+use Rattle.rules.specs.Area.{levelWords, entryWords, words, view}
+use Rattle.rules.specs.Book.{Entry, Work, Book, undoTo, emptied, cleared, zeroRecords, withWork}
 use Rattle.rules.specs.Change.{Result, go, stop}
 use Rattle.rules.specs.Lists.{𝟘, flat}
-use Rattle.rules.specs.Rows.{Row, Tables}
+use Rattle.rules.specs.Rows.{Tables}
 use Rattle.rules.specs.State.{placed}
 use Rattle.rules.specs.Values.{natOf}
-use Rattle.rules.specs.declared.Refusal.{Refusal}
-use Rattle.schema.proofs.SchemaLaws.{Valid}
 use Rattle.schema.specs.Ranges.{all}
 use Rattle.schema.specs.Records.{Schema}
 use Rattle.schema.specs.Sizes.{rowsSize, areaSize}
@@ -34,27 +31,35 @@ unfolding flat
 flat-append [] ys = refl
 flat-append (x ∷ xs) ys = ap (λ l. x ++ l) (flat-append xs ys) ∙ sym (append-assoc x (flat xs) (flat ys))
 
--- the words before the spare records
-front : Book → List ℤ
-front b =
+-- the words before the journal
+before : Book → List ℤ
+before b =
     (pos (length (b .levels)) ∷ pos (b .opener) ∷ pos (length (b .work .used)) ∷ 𝟘 ∷ [])
     ++ (b .kept
     ++ (flat (map levelWords (reverse (b .levels)) ++ b .closed)
-    ++ (flat (map flat (b .work .tabs))
-    ++ flat (map entryWords (reverse (b .work .used))))))
+    ++ flat (map flat (b .work .tabs))))
 
-five : {A : Type 0} (h k l r u v : List A) → h ++ (k ++ (l ++ (r ++ (u ++ v)))) ≡ (h ++ (k ++ (l ++ (r ++ u)))) ++ v
-five h k l r u v = simp append-assoc
+last-of-five : {A : Type 0} (h k l r j : List A) → h ++ (k ++ (l ++ (r ++ j))) ≡ (h ++ (k ++ (l ++ r))) ++ j
+last-of-five h k l r j = simp append-assoc
+
+words-before : (b : Book) → words b ≡ before b ++ flat (records (b .work))
+unfolding words before
+words-before b =
+    last-of-five (pos (length (b .levels)) ∷ pos (b .opener) ∷ pos (length (b .work .used)) ∷ 𝟘 ∷ []) (b .kept) (flat (map levelWords (reverse (b .levels)) ++ b .closed)) (flat (map flat (b .work .tabs))) (flat (records (b .work)))
+
+-- the words before the spare records
+front : Book → List ℤ
+front b = before b ++ flat (map entryWords (reverse (b .work .used)))
 
 words-front : (b : Book) → words b ≡ front b ++ flat (b .work .spare)
-unfolding words front
+unfolding front
 words-front b =
-    ap (λ x. (pos (length (b .levels)) ∷ pos (b .opener) ∷ pos (length (b .work .used)) ∷ 𝟘 ∷ []) ++ (b .kept ++ (flat (map levelWords (reverse (b .levels)) ++ b .closed) ++ (flat (map flat (b .work .tabs)) ++ x))))
-    (flat-append (map entryWords (reverse (b .work .used))) (b .work .spare))
-    ∙ five (pos (length (b .levels)) ∷ pos (b .opener) ∷ pos (length (b .work .used)) ∷ 𝟘 ∷ []) (b .kept) (flat (map levelWords (reverse (b .levels)) ++ b .closed)) (flat (map flat (b .work .tabs))) (flat (map entryWords (reverse (b .work .used)))) (flat (b .work .spare))
+    words-before b
+    ∙ ap (λ x. before b ++ x) (flat-append (map entryWords (reverse (b .work .used))) (b .work .spare))
+    ∙ sym (append-assoc (before b) (flat (map entryWords (reverse (b .work .used)))) (flat (b .work .spare)))
 
 front-cleared : (b : Book) → front (cleared b) ≡ front b
-unfolding front cleared
+unfolding before front cleared
 front-cleared b = refl
 
 module _ {s : Schema} {a : List ℤ} (f : Fit s a) where
@@ -67,11 +72,15 @@ module _ {s : Schema} {a : List ℤ} (f : Fit s a) where
       let l : length (b .work .used) ≤ length (map entryWords (reverse (b .work .used)) ++ b .work .spare) = simp (length-append, length-map, length-reverse) (omega arith) in
       ap (λ x. length (flat x)) (sym t) ∙ flat-sized 10 (length (b .work .used)) (map entryWords (reverse (b .work .used)) ++ b .work .spare) (records-sized (formed-fit f)) l
 
-  front-length : length (front (view s a)) ≡ 333 + rowsSize (s .tables) + natOf (getD a 2 𝟘) * 10
-  unfolding front levelList workOf
-  front-length =
+  before-length : length (before (view s a)) ≡ 333 + rowsSize (s .tables)
+  unfolding before levelList
+  before-length =
       let g : Formed s (view s a) = formed-fit f in
-      simp length-append (omega (arith, g .kept-length, levels-length g, tables-are g .1, used-words, use-is f))
+      simp length-append (omega (arith, g .kept-length, levels-length g, tables-are g .1))
+
+  front-length : length (front (view s a)) ≡ 333 + rowsSize (s .tables) + natOf (getD a 2 𝟘) * 10
+  unfolding front workOf
+  front-length = simp length-append (omega (arith, before-length, used-words, use-is f))
 
   pub words-cleared : (n : ℕ) → n ≡ 333 + rowsSize (s .tables) + natOf (getD a 2 𝟘) * 10 → words (cleared (view s a)) ≡ take n a ++ replicate (length a - n) 𝟘
   unfolding cleared workOf areaSize
@@ -81,6 +90,37 @@ module _ {s : Schema} {a : List ℤ} (f : Fit s a) where
       let p : front b ≡ take n a = sym (ap (take n) (sym w ∙ words-front b) ∙ take-at (front b) (flat (b .work .spare)) n (front-length ∙ sym e)) in
       let m : length (b .work .spare) * 10 ≡ length a - n = omega (arith, f .size, formed-fit f .room, use-is f) in
       words-front (cleared b) ∙ ap₂ (λ x y. x ++ y) (front-cleared b ∙ p) (flat-zeros 𝟘 10 (length (b .work .spare)) ∙ ap (λ k. replicate k 𝟘) m)
+
+  -- every record of the journal zeroed, and the use lowered to 0
+  words-emptied : (n : ℕ) → n ≡ 333 + rowsSize (s .tables) → words (withWork (emptied (workOf s a)) (view s a)) ≡ set (take n a ++ replicate (length a - n) 𝟘) 2 𝟘
+  unfolding before emptied workOf areaSize
+  words-emptied n e =
+      let b : Book = view s a in
+      let w : words b ≡ a = words-view s a (f .size) (f .legible-is) in
+      let p : before b ≡ take n a = sym (ap (take n) (sym w ∙ words-before b) ∙ take-at (before b) (flat (records (b .work))) n (before-length ∙ sym e)) in
+      let m : (length (b .work .used) + length (b .work .spare)) * 10 ≡ length a - n = omega (arith, f .size, formed-fit f .room) in
+      words-before (withWork (emptied (b .work)) b)
+      ∙ ap (λ x. set (before b ++ x) 2 𝟘) (flat-zeros 𝟘 10 (length (b .work .used) + length (b .work .spare)) ∙ ap (λ k. replicate k 𝟘) m)
+      ∙ ap (λ x. set (x ++ replicate (length a - n) 𝟘) 2 𝟘) p
+
+  formed-emptied : Formed s (withWork (emptied (workOf s a)) (view s a))
+  unfolding emptied workOf all
+  formed-emptied =
+      let g : Formed s (view s a) = formed-fit f in
+      record {
+        kept-length = g .kept-length;
+        sizes = g .sizes;
+        shuts = g .shuts;
+        levels-nine = g .levels-nine;
+        shaped = g .shaped;
+        olds = refl;
+        places = refl;
+        spares = all-zeros 10 𝟘 (length (view s a .work .used) + length (view s a .work .spare));
+        room = simp length-replicate (omega (arith, g .room));
+      }
+
+  pub emptied-is : (n : ℕ) → n ≡ 333 + rowsSize (s .tables) → {a′ : List ℤ} → a′ ≡ set (take n a ++ replicate (length a - n) 𝟘) 2 𝟘 → (workOf s a′ ≡ emptied (workOf s a)) × Keeps s a a′
+  emptied-is n e q = keeps-words (emptied (workOf s a)) formed-emptied (q ∙ sym (words-emptied n e))
 
 -- ---- the work that a result has
 unfoldable pub workIn : Result → Work

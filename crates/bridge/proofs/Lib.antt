@@ -12,3 +12,4 @@ pub mod UndoWords
 pub mod ClearWords
 pub mod Bits
 pub mod HoldLaws
+pub mod SoundLaws

@@ -11,7 +11,8 @@ use Rattle.schema.specs.Ranges.{all}
 use Rattle.schema.specs.Records.{tableOf}
 use Rattle.schema.specs.Fields.{schemaOf}
 use Rattle.schema.specs.Check.{checkSchema}
-use Rattle.rules.specs.State.{placed}
+use Rattle.rules.specs.State.{placed, undamaged}
+use Rattle.rules.specs.Area.{view}
 use Rattle.rules.specs.Book.{Work}
 use Rattle.rules.specs.Change.{Result, go, stop}
 use Rattle.rules.specs.declared.Verdict.{Verdict}
@@ -33,6 +34,11 @@ pub record Placed (b : List ℕ) (a : List ℤ) (t r : ℕ) : Type 0 where
 pub record Undoable (b : List ℕ) (a : List ℤ) : Type 0 where
   pub ready : Ready b a
   pub places : all (placed (schemaOf b)) (workOf (schemaOf b) a .used) ≡ true
+
+-- the schema's bytes are accepted, and refusal 10 does not apply
+pub record Sound (b : List ℕ) (a : List ℤ) : Type 0 where
+  pub ready : Ready b a
+  pub undamaged-is : undamaged (schemaOf b) (view (schemaOf b) a) ≡ true
 
 -- the row of w words at p
 unfoldable pub rowIn : List ℤ → ℕ → ℕ → List ℤ

@@ -1,16 +1,14 @@
 // Fields of schema bytes that break no rule of refusal 1, as the schema that the bytes are has them.
 ghost use mathlib.Core.Path.{_≡_};
-ghost use mathlib.Core.Bool.{Bool, true, false};
-ghost use Prim.Native.Nat.{ℕ, _+_, _*_, _≤_, _<_};
-ghost use lib.IntN.{ℤ, pos};
-ghost use lib.Dec.{eqb};
-ghost use lib.ListN.{length, getD};
-ghost use Rattle.schema.specs.Bounds.{Within};
+ghost use Prim.Native.Nat.{suc, _+_, _*_, _≤_, _<_};
+ghost use lib.IntN.{pos};
+ghost use lib.ListN.{length, getD, take};
+ghost use Rattle.schema.specs.Bounds.{Within, Columns};
 ghost use Rattle.schema.specs.Records.{tableOf, keyOf};
 ghost use Rattle.schema.specs.Bytes;
 ghost use Rattle.schema.specs.Fields;
 ghost use Rattle.schema.specs.Fields.{schemaOf};
-ghost use Rattle.schema.specs.Sizes.{tableSize, tableOffset, areaSize};
+ghost use Rattle.schema.specs.Sizes.{tableSize, rowsSize, rowsStart, tableOffset, areaSize};
 ghost use Rattle.schema.specs.Check.{checkSchema};
 use schema::Action;
 use schema::SchemaAnswer;
@@ -184,6 +182,39 @@ pub fn parent_column(bytes: &[u8], k: usize, i: usize) -> usize
     key_byte(bytes, k, 10 + i)
 }
 
+// The four bytes from p on, and four zeros.
+fn columns_at(bytes: &[u8], p: usize) -> [usize; 8]
+    requires { ⌜ p + 4 ≤ length (now bytes) ⌝ }
+    ensures { λ r. ⌜ r ≡ Bytes.four (now (bytes .entry)) p ⌝ }
+{
+    [
+        numbers::byte_at(bytes, p),
+        numbers::byte_at(bytes, p + 1),
+        numbers::byte_at(bytes, p + 2),
+        numbers::byte_at(bytes, p + 3),
+        0,
+        0,
+        0,
+        0,
+    ]
+}
+
+// The four child-column bytes of foreign key k, whose columns come first, and four zeros.
+pub fn child_columns(bytes: &[u8], k: usize) -> [usize; 8]
+    requires { ⌜ (checkSchema (now bytes) ≡ SchemaAnswer.Accepted) × (k < length (schemaOf (now bytes) .keys)) ⌝ }
+    ensures { λ r. ⌜ (take (length (keyOf (schemaOf (now (bytes .entry))) k .childColumns)) r ≡ keyOf (schemaOf (now (bytes .entry))) k .childColumns) × Columns (suc (tableOf (schemaOf (now (bytes .entry))) (keyOf (schemaOf (now (bytes .entry))) k .child) .columns)) (length (keyOf (schemaOf (now (bytes .entry))) k .childColumns)) r ⌝ }
+{
+    columns_at(bytes, numbers::key_start(bytes, k) + 6)
+}
+
+// The four parent-column bytes of foreign key k, whose columns come first, and four zeros.
+pub fn parent_columns(bytes: &[u8], k: usize) -> [usize; 8]
+    requires { ⌜ (checkSchema (now bytes) ≡ SchemaAnswer.Accepted) × (k < length (schemaOf (now bytes) .keys)) ⌝ }
+    ensures { λ r. ⌜ (take (length (keyOf (schemaOf (now (bytes .entry))) k .childColumns)) r ≡ keyOf (schemaOf (now (bytes .entry))) k .parentColumns) × Columns (suc (tableOf (schemaOf (now (bytes .entry))) (keyOf (schemaOf (now (bytes .entry))) k .parent) .columns)) (length (keyOf (schemaOf (now (bytes .entry))) k .childColumns)) r ⌝ }
+{
+    columns_at(bytes, numbers::key_start(bytes, k) + 10)
+}
+
 // ---- the area
 
 // The words of table t's rows.
@@ -210,11 +241,18 @@ pub fn start_of(bytes: &[u8], t: usize) -> usize
     at
 }
 
+// The first word of the journal.
+pub fn journal_start(bytes: &[u8]) -> usize
+    requires { ⌜ checkSchema (now bytes) ≡ SchemaAnswer.Accepted ⌝ }
+    ensures { λ r. ⌜ (r ≡ rowsStart + rowsSize (schemaOf (now (bytes .entry)) .tables)) × (r ≤ 333 + 9216 * 16) ⌝ }
+{
+    start_of(bytes, table_count(bytes))
+}
+
 // The length of the area.
 pub fn area_length(bytes: &[u8]) -> usize
     requires { ⌜ checkSchema (now bytes) ≡ SchemaAnswer.Accepted ⌝ }
     ensures { λ r. ⌜ (r ≡ areaSize (schemaOf (now (bytes .entry)))) × (r < 188750) ⌝ }
 {
-    let n = table_count(bytes);
-    start_of(bytes, n) + room(bytes) * 10
+    journal_start(bytes) + room(bytes) * 10
 }

@@ -17,9 +17,9 @@ use Rattle.schema.proofs.SchemaLaws.{Valid}
 use Rattle.rules.specs.declared.Refusal.the-variants.{BadCall, Damaged}
 use Rattle.rules.specs.Book.{Book}
 use Rattle.rules.specs.Calls.{parse, allowed}
-use Rattle.rules.specs.Statement.{Turn, check}
+use Rattle.rules.specs.Statement.{check}
 use Rattle.rules.specs.Step.{step, runAll, run, Logged}
-use Rattle.rules.specs.Area.{AreaTurn, words, view, ensure, areaStep, areaRun}
+use Rattle.rules.specs.Area.{onWords, words, view, ensure, areaStep, areaRun}
 use Rattle.rules.specs.Engine.{underSchema, callOn, runOn}
 use Rattle.bridge.proofs.Tests.{passes}
 use Rattle.bridge.proofs.RoundTrip.{view-words, legible-words, words-length}
@@ -28,15 +28,12 @@ use Rattle.laws.proofs.Formed.{good-formed}
 use Rattle.laws.proofs.Outcome.{outcome}
 use Rattle.laws.proofs.Struck.{Inv, keep-call}
 
-abbrev onWords : Turn → AreaTurn
-onWords t = (t .0, words (t .1))
-
 pub area-step : {s : Schema} {b : Book} → Valid s → Good s b → (c : List ℤ) → areaStep s c (words b) ≡ onWords (step s c b)
 unfolding areaStep ensure step check
 area-step {s} {b} v g c =
     rw (words-length (good-formed v g), passes (eqb (areaSize s) (areaSize s)) (eqb-refl (areaSize s)), legible-words (good-formed v g)) (by (allowed s (parse c)) refl)
   where
-    by : (t : Bool) → allowed s (parse c) ≡ t → ensure t BadCall (ensure true Damaged (λ ws. (step s c (view s ws) .0, words (step s c (view s ws) .1)))) (words b) ≡ onWords (step s c b)
+    by : (t : Bool) → allowed s (parse c) ≡ t → ensure t BadCall (ensure true Damaged (λ ws. onWords (step s c (view s ws)))) (words b) ≡ onWords (step s c b)
     by true e = rw (view-words (good-formed v g)) refl
     by false e = rw e refl
 

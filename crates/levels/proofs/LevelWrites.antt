@@ -1,27 +1,27 @@
 -- Levels opened and closed, kept numbers and opener replaced, by an area's words.
 -- Assumes nothing.
-use mathlib.Core.Path.{_≡_, refl, sym, _∙_, ap, ap₂, subst}
-use mathlib.Core.Bool.{Bool, true}
-use mathlib.Core.List.{List, [], _∷_, _++_, map, reverse, reverse-reverse, append-assoc}
+use mathlib.Core.Path.{_≡_, refl, sym, _∙_, ap, ap₂}
+use mathlib.Core.Bool.{true}
+use mathlib.Core.List.{List, [], _∷_, _++_, map, reverse, reverse-reverse}
 use Prim.Native.Nat.{ℕ, zero, suc, _+_, _-_, _*_, _≤_, _<_}
 use native.Mathlib.Nat.{zero-add, le-of-lt}
 use native.Mathlib.Omega.{arith}
 use lib.Dec.{eqb}
 use lib.IntN.{ℤ, pos}
-use lib.ListN.{length, getD, set, take, drop, replicate, length-map, length-reverse, length-append, length-replicate, length-drop, length-set, take-append-drop}
-use lib.Seq.{sets, length-sets, drop-at, take-at, drop-drop, take-append-le, take-take}
+use lib.ListN.{length, getD, set, take, drop, replicate, length-map, length-reverse, length-append, length-replicate, length-drop}
+use lib.Seq.{sets, drop-at, take-append-le}
 use Rattle.schema.specs.Ranges.{all}
 use Rattle.schema.specs.Records.{Schema}
 use Rattle.schema.specs.Sizes.{areaSize}
 use Rattle.rules.specs.Lists.{𝟘, flat}
-use Rattle.rules.specs.Book.{Level, Work, Book, zeroLevels, push, close}
+use Rattle.rules.specs.Book.{Level, Book, zeroLevels, push, close}
 use Rattle.rules.specs.Area.{words, view, levelWords, entryWords}
 use Rattle.bridge.specs.Fit.{Fit, Holds}
-use Rattle.bridge.proofs.Tests.{all-cons, all-append, all-drop, all-tail}
+use Rattle.bridge.proofs.Tests.{all-cons, all-append, all-drop}
 use Rattle.bridge.proofs.Books.{sized}
 use Rattle.bridge.proofs.Views.{splice, splice-right, splice-left, splice-whole, flat-set, words-view}
 use Rattle.bridge.proofs.JournalWords.{flat-sized, sized-at}
-use Rattle.bridge.proofs.RoundTrip.{Formed, of-size, all-zeros, levelList, levels-sized, levels-count, levels-length, flat-zeros, words-length}
+use Rattle.bridge.proofs.RoundTrip.{Formed, of-size, all-zeros, levelList, levels-sized, levels-count, levels-length, flat-zeros}
 use Rattle.bridge.proofs.RowWords.{formed-fit, sets-splice}
 use Rattle.bridge.proofs.HoldLaws.{holds-words}
 use Rattle.bridge.proofs.ClearWords.{flat-append}

@@ -18,6 +18,7 @@ use Rattle.rules.specs.Values.{natOf, natural, sameValue}
 use Rattle.rules.specs.Rows.{Row, Tables}
 use Rattle.rules.specs.Book.{Entry, Level, Work, Book}
 use Rattle.rules.specs.Calls.{parse, allowed}
+use Rattle.rules.specs.Statement.{Turn}
 use Rattle.rules.specs.Step.{step, Logged, runAll}
 
 -- ---- from the book to the words
@@ -103,6 +104,10 @@ legible s ws =
 abbrev pub AreaTurn : Type 0
 AreaTurn = Answer × List ℤ
 
+-- a turn on a book, by the book's words
+abbrev pub onWords : Turn → AreaTurn
+onWords t = (t .0, words (t .1))
+
 -- where the test fails, refused with nothing written
 unfoldable pub ensure : Bool → Refusal → (List ℤ → AreaTurn) → List ℤ → AreaTurn
 ensure true r k ws = k ws
@@ -114,7 +119,7 @@ areaStep s c ws =
     ensure (eqb (length ws) (areaSize s)) WrongLength
     (ensure (allowed s (parse c)) BadCall
     (ensure (legible s ws) Damaged
-    (λ ws. (step s c (view s ws) .0, words (step s c (view s ws) .1)))))
+    (λ ws. onWords (step s c (view s ws)))))
     ws
 
 abbrev pub areaRun : Schema → List (List ℤ) → List ℤ → List Logged × List ℤ

@@ -1,28 +1,56 @@
 -- A field that was read at its place is the field of the schema, and within its bounds. Assumes nothing.
 use mathlib.Core.Path.{_≡_, refl, sym, ap, _∙_}
-use mathlib.Core.Bool.{Bool, true, false}
+use mathlib.Core.Bool.{Bool, true}
 use mathlib.Core.List.{List, [], _∷_}
-use Prim.Native.Nat.{ℕ, zero, suc, _+_, _*_, _<_, _≤_}
+use Prim.Native.Nat.{ℕ, zero, suc, _+_, _<_, _≤_}
 use native.Mathlib.Nat.{zero-add}
 use native.Mathlib.Omega.{arith}
 use borrow.Author.Tests.{ltb-true}
 use lib.Dec.{eqb}
 use lib.IntN.{ℤ, pos}
-use lib.ListN.{length, getD}
+use lib.ListN.{length, getD, take, drop}
+use lib.Seq.{getD-take}
 use Rattle.schema.specs.declared.Action.{Action}
 use Rattle.schema.specs.declared.SchemaAnswer.the-variants.{Accepted}
-use Rattle.schema.specs.Ranges.{listFrom, allFrom}
-use Rattle.schema.specs.Bounds.{Within}
-use Rattle.schema.specs.Records.{Table, ForeignKey, Schema, tableOf, keyOf}
+use Rattle.schema.specs.Ranges.{listFrom}
+use Rattle.schema.specs.Bounds.{Within, Columns}
+use Rattle.schema.specs.Records.{Table, ForeignKey, tableOf, keyOf}
 use Rattle.schema.specs.Bytes
 use Rattle.schema.specs.Fields
 use Rattle.schema.specs.Fields.{tableFrom, keyFrom, schemaOf}
 use Rattle.schema.specs.Check
 use Rattle.schema.proofs.RangeLaws.{all-at}
-use Rattle.schema.proofs.Formed.{Formed, formed, Sizes, Codes}
+use Rattle.schema.proofs.Formed.{formed, Sizes, Codes}
 use Rattle.schema.proofs.ListLaws.{length-from, get-list}
-use Rattle.schema.proofs.SchemaLaws.{tables-are, keys-are, room-is, table-is, key-is, accepted-formed, accepted-parents}
+use Rattle.schema.proofs.SchemaLaws.{tables-are, keys-are, room-is, table-is, key-is, accepted-formed}
 use Rattle.schema.proofs.KeyLaws.{parent-key, parent-below}
+
+pub byte-assoc : (bs : List ℕ) (a b i : ℕ) → Bytes.byte bs (a + (b + i)) ≡ Bytes.byte bs (a + b + i)
+byte-assoc bs a b i = let e : a + (b + i) ≡ a + b + i = omega arith in ap (Bytes.byte bs) e
+
+pub byte-zero : (bs : List ℕ) (a : ℕ) → Bytes.byte bs (a + 0) ≡ Bytes.byte bs a
+byte-zero bs a = let e : a + 0 ≡ a = omega arith in ap (Bytes.byte bs) e
+
+-- the first n of four columns
+first-columns : (f : ℕ → ℕ) (n : ℕ) → n ≤ 4 → take n (f 0 ∷ f 1 ∷ f 2 ∷ f 3 ∷ 0 ∷ 0 ∷ 0 ∷ 0 ∷ []) ≡ listFrom f n 0
+unfolding listFrom
+first-columns f zero h = refl
+first-columns f (suc zero) h = refl
+first-columns f (suc (suc zero)) h = refl
+first-columns f (suc (suc (suc zero))) h = refl
+first-columns f (suc (suc (suc (suc zero)))) h = refl
+first-columns f (suc (suc (suc (suc (suc n))))) h = absurd (omega arith)
+
+columns-are : (bs : List ℕ) (p n w : ℕ) {cs r : List ℕ} → n ≤ 4 → cs ≡ listFrom (λ i. Bytes.byte bs (p + i)) n 0 → ((i : ℕ) → i < n → getD cs i 0 < w) → r ≡ Bytes.four bs p → (take n r ≡ cs) × Columns (suc w) n r
+columns-are bs p n w {cs} {r} h e below q =
+    let t : take n r ≡ cs = ap (take n) (q ∙ ap (λ (x : ℕ). x ∷ drop 1 (Bytes.four bs p)) (sym (byte-zero bs p))) ∙ first-columns (λ i. Bytes.byte bs (p + i)) n h ∙ sym e in (
+      t,
+      record {
+        few = omega arith;
+        size = ap length q;
+        within = λ i l. let g : getD r i 0 ≡ getD cs i 0 = sym (getD-take n r i 0 l) ∙ ap (λ (x : List ℕ). getD x i 0) t in omega (arith, below i l);
+      },
+    )
 
 module _ (bs : List ℕ) (acc : Check.checkSchema bs ≡ Accepted) where
   w : Check.wellFormed bs ≡ true
@@ -41,6 +69,12 @@ module _ (bs : List ℕ) (acc : Check.checkSchema bs ≡ Accepted) where
   pub read-room : {r : ℕ} → r ≡ Fields.roomOf bs → (r ≡ schemaOf bs .room) × Within 1 4096 r
   read-room e = (e ∙ sym (room-is bs), rw e (formed bs w .header .room))
 
+  pub tables-few : length (schemaOf bs .tables) ≤ 16
+  tables-few = count-tables (tables-are bs) .1 .high
+
+  pub room-few : schemaOf bs .room ≤ 4096
+  room-few = read-room (room-is bs) .1 .high
+
   module _ (t : ℕ) (h : t < length (schemaOf bs .tables)) where
     -- the record of table t is within the bytes
     pub table-within : Fields.tableStart t + 80 ≤ length bs
@@ -56,6 +90,9 @@ module _ (bs : List ℕ) (acc : Check.checkSchema bs ≡ Accepted) where
     pub read-columns : {r : ℕ} → r ≡ Fields.columnsOf bs t → (r ≡ tableOf (schemaOf bs) t .columns) × Within 1 8 r
     unfolding tableFrom
     read-columns e = (e ∙ sym (ap (λ (x : Table). x .columns) (table-is bs t h)), rw e (size-here .columns))
+
+    pub columns-few : tableOf (schemaOf bs) t .columns ≤ 8
+    columns-few = let q = read-columns refl in omega (arith, q .0, q .1)
 
     pub read-not-null : {r : ℕ} → r ≡ Fields.notNullOf bs t → r ≡ tableOf (schemaOf bs) t .notNull
     unfolding tableFrom
@@ -143,8 +180,19 @@ module _ (bs : List ℕ) (acc : Check.checkSchema bs ≡ Accepted) where
             rw (key-is bs k h, table-is bs (Fields.parentOf bs k) there, e) (parent-below bs acc k h i (omega (arith, width-is))),
           )
 
-pub byte-assoc : (bs : List ℕ) (a b i : ℕ) → Bytes.byte bs (a + (b + i)) ≡ Bytes.byte bs (a + b + i)
-byte-assoc bs a b i = let e : a + (b + i) ≡ a + b + i = omega arith in ap (Bytes.byte bs) e
+    -- all columns, zeros behind them
+    pub read-child-columns : {r : List ℕ} → r ≡ Bytes.four bs (Fields.keyStart bs k + 6) → (take (length (keyOf (schemaOf bs) k .childColumns)) r ≡ keyOf (schemaOf bs) k .childColumns) × Columns (suc (tableOf (schemaOf bs) (keyOf (schemaOf bs) k .child) .columns)) (length (keyOf (schemaOf bs) k .childColumns)) r
+    unfolding keyFrom
+    read-child-columns e =
+        columns-are bs (Fields.keyStart bs k + 6) _ _ (omega (arith, width-is, codes-here .width))
+        (ap (λ (x : ForeignKey). x .childColumns) (key-is bs k h) ∙ ap (λ (n : ℕ). listFrom (Fields.childColumnOf bs k) n 0) (sym width-is))
+        (λ i l. rw (← (read-child-column i l refl .0)) (read-child-column i l refl .1))
+        e
 
-pub byte-zero : (bs : List ℕ) (a : ℕ) → Bytes.byte bs (a + 0) ≡ Bytes.byte bs a
-byte-zero bs a = let e : a + 0 ≡ a = omega arith in ap (Bytes.byte bs) e
+    pub read-parent-columns : {r : List ℕ} → r ≡ Bytes.four bs (Fields.keyStart bs k + 10) → (take (length (keyOf (schemaOf bs) k .childColumns)) r ≡ keyOf (schemaOf bs) k .parentColumns) × Columns (suc (tableOf (schemaOf bs) (keyOf (schemaOf bs) k .parent) .columns)) (length (keyOf (schemaOf bs) k .childColumns)) r
+    unfolding keyFrom
+    read-parent-columns e =
+        columns-are bs (Fields.keyStart bs k + 10) _ _ (omega (arith, width-is, codes-here .width))
+        (ap (λ (x : ForeignKey). x .parentColumns) (key-is bs k h) ∙ ap (λ (n : ℕ). listFrom (Fields.parentColumnOf bs k) n 0) (sym width-is))
+        (λ i l. rw (← (read-parent-column i l refl .0)) (read-parent-column i l refl .1))
+        e

@@ -1,23 +1,21 @@
 -- The schema that bytes are, where the bytes break no rule of refusal 1. Assumes nothing.
-use mathlib.Core.Path.{_≡_, refl, sym, ap, _∙_}
+use mathlib.Core.Path.{_≡_, refl}
 use mathlib.Core.Bool.{Bool, true, false, cond}
-use mathlib.Core.List.{List, [], _∷_}
-use Prim.Native.Nat.{ℕ, zero, suc, _+_, _*_, _<_, _≤_}
+use mathlib.Core.List.{List}
+use Prim.Native.Nat.{ℕ, _<_, _≤_}
 use native.Mathlib.Omega.{arith}
 use borrow.Author.Tests.{le-leb}
 use lib.Dec.{leb}
-use lib.IntN.{ℤ, pos}
-use lib.ListN.{length, getD}
+use lib.ListN.{length}
 use native.Mathlib.Nat.{zero-add}
 use Rattle.schema.specs.declared.SchemaAnswer.the-variants.{Accepted, Malformed, Unmatched}
-use Rattle.schema.specs.Ranges.{listFrom, all, allFrom}
+use Rattle.schema.specs.Ranges.{all, allFrom}
 use Rattle.schema.proofs.RangeLaws.{all-at}
-use Rattle.schema.specs.Bounds.{Within}
-use Rattle.schema.specs.Records.{Table, ForeignKey, Schema, noTable, noKey, tableOf, keyOf}
+use Rattle.schema.specs.Records.{Schema, noTable, noKey, tableOf, keyOf}
 use Rattle.schema.specs.Fields
 use Rattle.schema.specs.Fields.{tableFrom, keyFrom, schemaOf}
 use Rattle.schema.specs.Check
-use Rattle.schema.proofs.Formed.{Formed, formed, Sizes, Codes}
+use Rattle.schema.proofs.Formed.{formed}
 use Rattle.schema.proofs.ListLaws.{length-from, get-list, all-list}
 
 -- what the theorems on the rules need of a schema
@@ -71,6 +69,9 @@ module _ (bs : List ℕ) (e : Check.checkSchema bs ≡ Accepted) where
 
   pub accepted-formed : Check.wellFormed bs ≡ true
   accepted-formed = parts .0
+
+  pub accepted-valid : Valid (schemaOf bs)
+  accepted-valid = valid bs accepted-formed
 
   pub accepted-parents : (k : ℕ) → k < length (schemaOf bs .keys) → Check.parentRules bs k ≡ true
   accepted-parents k h = rw (zero-add k) at (all-at (Check.parentRules bs) (Fields.keyCount bs) 0 (parts .1) k (omega (arith, keys-are bs)))

@@ -1,14 +1,14 @@
 -- Where the tables stand in an area. Assumes nothing.
-use mathlib.Core.Path.{_≡_, refl, sym, ap, _∙_}
+use mathlib.Core.Path.{_≡_, refl}
 use mathlib.Core.List.{List, [], _∷_}
 use Prim.Native.Nat.{ℕ, zero, suc, _+_, _*_, _<_, _≤_}
-use native.Mathlib.Nat.{add-zero, zero-add, mul-le-mul-left, mul-le-mul-right, le-trans}
+use native.Mathlib.Nat.{mul-le-mul-left, mul-le-mul-right, le-trans}
 use native.Mathlib.Numerals.{add-one}
 use native.Mathlib.Omega.{arith}
 use lib.ListN.{length, getD, take}
 use lib.Seq.{take-all}
 use Rattle.schema.specs.Records.{Table, Schema, noTable, tableOf}
-use Rattle.schema.specs.Sizes.{tableSize, rowsSize, tableOffset, areaSize}
+use Rattle.schema.specs.Sizes.{tableSize, rowsSize, rowsStart, tableOffset, areaSize}
 
 pub product : (a b : ℕ) → a ≤ 1024 → b ≤ 9 → a * b ≤ 9216
 product a b h k = le-trans (mul-le-mul-right b h) (mul-le-mul-left 1024 k)
@@ -32,6 +32,11 @@ module _ (s : Schema) where
   unfolding tableOffset
   offset-more i h = rw (add-one i) (omega (arith, rows-more (s .tables) i h))
 
-  pub size-all : {n r : ℕ} → n ≡ length (s .tables) → r ≡ s .room → tableOffset s n + r * 10 ≡ areaSize s
-  unfolding tableOffset areaSize
-  size-all {n} {r} p q = rw (q, p, take-all (length (s .tables)) (s .tables) (omega arith))
+  -- past the last table stands the journal
+  pub offset-end : {n : ℕ} → n ≡ length (s .tables) → tableOffset s n ≡ rowsStart + rowsSize (s .tables)
+  unfolding tableOffset
+  offset-end p = rw (p, take-all (length (s .tables)) (s .tables) (omega arith))
+
+  pub size-all : {j r : ℕ} → j ≡ rowsStart + rowsSize (s .tables) → r ≡ s .room → j + r * 10 ≡ areaSize s
+  unfolding areaSize
+  size-all p q = rw (p, q)

@@ -1,7 +1,7 @@
 -- Numbers in bytes. "Little-endian; all fields unsigned except the defaults."
 -- Assumes nothing.
 use mathlib.Core.Bool.{Bool}
-use mathlib.Core.List.{List}
+use mathlib.Core.List.{List, [], _∷_}
 use Prim.Native.Nat.{ℕ, _+_, _*_, _/_, _%_, _^_}
 use lib.Dec.{eqb}
 use lib.IntN.{ℤ}
@@ -20,6 +20,10 @@ half bs i = getD bs i 0 + 256 * getD bs (i + 1) 0
 -- the unsigned 64-bit number whose eight bytes start at i
 abbrev pub word : List ℕ → ℕ → ℕ
 word bs i = half bs i + 65536 * half bs (i + 2) + 4294967296 * half bs (i + 4) + 281474976710656 * half bs (i + 6)
+
+-- the four bytes from i on, and four zeros
+abbrev pub four : List ℕ → ℕ → List ℕ
+four bs i = getD bs i 0 ∷ getD bs (i + 1) 0 ∷ getD bs (i + 2) 0 ∷ getD bs (i + 3) 0 ∷ 0 ∷ 0 ∷ 0 ∷ 0 ∷ []
 
 -- the signed number that the same 64 bits are in two's complement
 abbrev pub signedWord : List ℕ → ℕ → ℤ

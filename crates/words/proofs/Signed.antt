@@ -1,16 +1,16 @@
 -- A signed local holds bits: what a test or a cast of it says of the word itself. Assumes nothing.
-use mathlib.Core.Path.{_≡_, refl, sym, ap, subst, _∙_}
-use mathlib.Core.Bool.{Bool, true, false}
-use Prim.Native.Nat.{ℕ, zero, suc, _+_, _-_, _^_, _<_, _≤_}
+use mathlib.Core.Path.{_≡_, refl, subst}
+use mathlib.Core.Bool.{true, false}
+use Prim.Native.Nat.{_-_, _^_, _<_}
 use native.Mathlib.Omega.{arith}
 use lib.IntN.{ℤ, pos, negsuc, natAbs}
-use lib.Dec.{T, eqb, ltb, lit<}
+use lib.Dec.{T}
 use lib.Signed.{ltZ, nonNeg, mag}
 use mir.Syntax.{w64}
 use mir.Val.{Fits, SFits, toZ, ofZ}
 use mir.ValLaws.{toZ-ofZ}
-use borrow.Author.Tests.{ltb-true, ne-eqb, eqb-true, eq-eqb}
-use Rattle.rules.specs.Values.{natOf, sameValue}
+use borrow.Author.Tests.{ltb-true}
+use Rattle.rules.specs.Values.{natOf}
 
 -- a word that was read, through the local that holds its bits
 pub back : (z : ℤ) → mag z < 2 ^ 63 → toZ w64 (ofZ w64 z) ≡ z

@@ -1,23 +1,16 @@
 use Rattle.schema.specs.Records.{tableOf}
 use Prim.Native.Nat.{_-_}
-use mathlib.Core.Path.{_≡_, refl, sym, ap, _∙_}
-use mathlib.Core.Bool.{Bool, true, false}
-use Prim.Native.Nat.{ℕ, _+_, _*_, _≤_, _<_}
+use mathlib.Core.Path.{_≡_, ap, _∙_}
+use Prim.Native.Nat.{_+_, _*_, _≤_}
 use native.Mathlib.Omega.{arith}
-use borrow.Author.Tests.{not-true, not-false, lt-leb, le-leb}
-use lib.ListN.{length}
 use borrow.Author.Needs.{needs}
 use Rattle.schema.specs.Fields.{schemaOf}
 use Rattle.schema.specs.Sizes.{tableSize, tableOffset}
-use Rattle.schema.specs.Bounds.{Within}
 use Rattle.schema.proofs.SchemaLaws.{tables-are}
 use Rattle.schema.proofs.FieldLaws.{count-tables}
 use Rattle.schema.proofs.SizeLaws.{offset-start, offset-more}
 use Rattle.fields.proofs.start_of.Statement.{statement}
 use Rattle.fields.proofs.start_of.Tie as tie
-use Rattle.fields.proofs.start_of.Reads as reads
-use Rattle.fields.proofs.start_of.Lts as lts
-use Rattle.fields.proofs.table_words.Reads as table-words-reads
 
 abbrev Inv-loop : tie.InvT-loop
 Inv-loop bytes t at₀ i₀ at i = (i ≤ t) × ((at ≡ tableOffset (schemaOf bytes) i) × (at ≤ 333 + 9216 * i))
@@ -25,34 +18,27 @@ Inv-loop bytes t at₀ i₀ at i = (i ≤ t) × ((at ≡ tableOffset (schemaOf b
 abbrev μ-loop : tie.MeasureT-loop
 μ-loop bytes t at₀ i₀ at i = t - i
 
--- src/lib.rt:205:5
 loop-holds : tie.Need-loop-holds Inv-loop μ-loop
 loop-holds c = (search needs, (offset-start _, search needs))
 
--- src/lib.rt:206:15
 table-words-requires : tie.Need-table-words-requires Inv-loop μ-loop
 table-words-requires c κs = (c .before .before .before .pre .0, omega arith)
 
--- src/lib.rt:206:9
 add-at : tie.Need-add-at Inv-loop μ-loop
 add-at c = omega (arith, count-tables (c .before .before .before .before .args .bytes .now) (c .before .before .before .before .pre .0) (tables-are (c .before .before .before .before .args .bytes .now)) .1 .high)
 
--- src/lib.rt:207:9
 add-i : tie.Need-add-i Inv-loop μ-loop
 add-i c = search needs
 
--- src/lib.rt:205:5
 loop-less : tie.Need-loop-less Inv-loop μ-loop
 loop-less c = search needs
 
--- src/lib.rt:205:5
 loop-again : tie.Need-loop-again Inv-loop μ-loop
 loop-again c =
     let s = schemaOf (c .before .before .before .before .args .bytes .now) in
     let e : c .before .before .loop .at + c .table-words .result ≡ tableOffset s (c .before .before .loop .i) + tableSize (tableOf s (c .before .before .loop .i)) = cc in
     (search needs, (e ∙ offset-more s (c .before .before .loop .i) (omega arith), search needs))
 
--- src/lib.rt:199:1
 returns : tie.Need-returns Inv-loop μ-loop
 returns c =
     let e : c .before .loop .i ≡ c .before .before .before .args .t = omega arith in

@@ -1,66 +1,45 @@
-use mathlib.Core.Path.{_≡_, refl, sym, ap, ap₂, _∙_}
+use mathlib.Core.Path.{ap, ap₂, _∙_}
 use mathlib.Core.List.{List, _∷_}
-use Prim.Native.Nat.{ℕ, suc, _+_, _-_, _*_}
-use native.Mathlib.Numerals.{add-one}
-use native.Mathlib.Omega.{arith}
+use Prim.Native.Nat.{ℕ, _+_, _-_, _*_}
 use lib.IntN.{ℤ, pos}
-use lib.ListN.{length, getD, set, take, drop, replicate, length-set}
+use lib.ListN.{getD, set}
 use lib.Seq.{sets}
-use mir.Syntax.{w64}
-use mir.Val.{toZ, ofZ}
 use Rattle.words.proofs.Signed.{back}
 use Rattle.rules.specs.Values.{natOf}
 use borrow.Author.Needs.{needs}
 use Rattle.levels.proofs.open_level.Statement.{statement}
 use Rattle.levels.proofs.open_level.Tie as tie
-use Rattle.levels.proofs.open_level.Reads as reads
-use Rattle.levels.proofs.open_level.Lts as lts
-use Rattle.levels.proofs.put_level.Reads as put-level-reads
-use Rattle.words.proofs.nat_at.Reads as nat-at-reads
-use Rattle.words.proofs.numbers_at.Reads as numbers-at-reads
-use Rattle.words.proofs.word_of.Reads as word-of-reads
 
--- src/lib.rt:24:9
 nat-at-requires : tie.Need-nat-at-requires
 nat-at-requires c κs = search needs
 
--- src/lib.rt:25:9
 nat-at-requires-2 : tie.Need-nat-at-requires-2
 nat-at-requires-2 c κs = search needs
 
--- src/lib.rt:26:9
 numbers-at-requires : tie.Need-numbers-at-requires
 numbers-at-requires c κs = search needs
 
--- src/lib.rt:27:26
 mul-put-level : tie.Need-mul-put-level
 mul-put-level c = search needs
 
--- src/lib.rt:27:21
 add-put-level : tie.Need-add-put-level
 add-put-level c = search needs
 
--- src/lib.rt:27:5
 put-level-requires : tie.Need-put-level-requires
 put-level-requires c κs = search needs
 
--- src/lib.rt:28:30
 add-word-of : tie.Need-add-word-of
 add-word-of c = search needs
 
--- src/lib.rt:28:15
 word-of-requires : tie.Need-word-of-requires
 word-of-requires c κs = search needs
 
--- src/lib.rt:28:5
 slice-set-from-area : tie.Need-slice-set-from-area
 slice-set-from-area c = search needs
 
--- src/lib.rt:20:1
 same-length : tie.Need-same-length
 same-length c = search needs
 
--- src/lib.rt:20:1
 returns : tie.Need-returns
 returns c =
     let a : List ℤ = c .before .before .before .before .before .before .before .before .before .before .args .area .now in

@@ -1,10 +1,9 @@
-use mathlib.Core.Path.{_≡_, refl, sym, ap, ap₂, _∙_}
-use mathlib.Core.List.{List, _∷_}
-use Prim.Native.Nat.{ℕ, suc, _+_, _-_, _*_}
+use mathlib.Core.Path.{_≡_, ap₂, _∙_}
+use Prim.Native.Nat.{ℕ, _-_}
 use native.Mathlib.Numerals.{add-one}
 use native.Mathlib.Omega.{arith}
-use lib.IntN.{ℤ, pos}
-use lib.ListN.{length, getD, set, take, drop, replicate, length-set}
+use lib.IntN.{ℤ}
+use lib.ListN.{length, set, length-set}
 use lib.Seq.{sets}
 use mir.Syntax.{w64}
 use mir.Val.{toZ, ofZ}
@@ -12,38 +11,27 @@ use Rattle.words.proofs.Signed.{back}
 use borrow.Author.Needs.{needs}
 use Rattle.levels.proofs.put_level.Statement.{statement}
 use Rattle.levels.proofs.put_level.Tie as tie
-use Rattle.levels.proofs.put_level.Reads as reads
-use Rattle.levels.proofs.put_level.Lts as lts
-use Rattle.words.proofs.put_numbers.Reads as put-numbers-reads
-use Rattle.words.proofs.word_of.Reads as word-of-reads
 
--- src/lib.rt:15:16
 word-of-requires : tie.Need-word-of-requires
 word-of-requires c κs = search needs
 
--- src/lib.rt:15:5
 mul-t6 : tie.Need-mul-t6
 mul-t6 c = search needs
 
--- src/lib.rt:15:5
 slice-set-from-area : tie.Need-slice-set-from-area
 slice-set-from-area c = search needs
 
--- src/lib.rt:16:30
 add-put-numbers : tie.Need-add-put-numbers
 add-put-numbers c = search needs
 
--- src/lib.rt:16:5
 put-numbers-requires : tie.Need-put-numbers-requires
 put-numbers-requires c κs =
     let e : length (set (c .before .before .args .area .now) (c .before .before .args .at) (toZ w64 (ofZ w64 (c .before .word-of .result)))) ≡ length (c .before .before .args .area .now) = length-set (c .before .before .args .area .now) (c .before .before .args .at) (toZ w64 (ofZ w64 (c .before .word-of .result))) in
     omega arith
 
--- src/lib.rt:11:1
 same-length : tie.Need-same-length
 same-length c = c .before .put-numbers .kept .0 ∙ length-set (c .before .before .before .before .args .area .now) (c .before .before .before .before .args .at) (toZ w64 (ofZ w64 (c .before .before .before .word-of .result)))
 
--- src/lib.rt:11:1
 returns : tie.Need-returns
 returns c =
     c .before .put-numbers .ensures

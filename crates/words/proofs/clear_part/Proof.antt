@@ -1,17 +1,13 @@
-use mathlib.Core.Path.{_≡_, refl, sym, ap, _∙_}
-use mathlib.Core.List.{List, [], _∷_, _++_}
-use Prim.Native.Nat.{ℕ, _+_, _-_, _<_, _≤_}
+use mathlib.Core.Path.{_≡_}
+use Prim.Native.Nat.{_-_, _≤_}
 use native.Mathlib.Omega.{arith}
 use borrow.Author.Needs.{needs}
-use lib.IntN.{ℤ, pos}
-use lib.ListN.{length, getD, take, drop, set, replicate, length-set, length-drop}
-use lib.Seq.{sets, take-all}
-use Rattle.words.proofs.Signed.{back}
-use Rattle.words.proofs.Splice.{read-more, read-all, sets-more, sets-same}
+use lib.IntN.{pos}
+use lib.ListN.{length, replicate, length-set}
+use lib.Seq.{sets}
+use Rattle.words.proofs.Splice.{sets-same}
 use Rattle.words.proofs.clear_part.Statement.{statement}
 use Rattle.words.proofs.clear_part.Tie as tie
-use Rattle.words.proofs.clear_part.Reads as reads
-use Rattle.words.proofs.clear_part.Lts as lts
 
 abbrev Inv-loop : tie.InvT-loop
 Inv-loop area₀ from count k₀ area k = (k ≤ count) × ((length area ≡ length area₀) × (area ≡ sets area₀ from (replicate k (pos 0))))
@@ -19,42 +15,33 @@ Inv-loop area₀ from count k₀ area k = (k ≤ count) × ((length area ≡ len
 abbrev μ-loop : tie.MeasureT-loop
 μ-loop area₀ from count k₀ area k = count - k
 
--- src/lib.rt:136:5
 loop-holds : tie.Need-loop-holds Inv-loop μ-loop
 loop-holds c = search needs
 
--- src/lib.rt:137:14
 add-area : tie.Need-add-area Inv-loop μ-loop
 add-area c = search needs
 
--- src/lib.rt:137:9
 mul-area : tie.Need-mul-area Inv-loop μ-loop
 mul-area c = search needs
 
--- src/lib.rt:137:9
 slice-set-of-area : tie.Need-slice-set-of-area Inv-loop μ-loop
 slice-set-of-area c = search needs
 
--- src/lib.rt:138:9
 add-k : tie.Need-add-k Inv-loop μ-loop
 add-k c = search needs
 
--- src/lib.rt:136:5
 loop-less : tie.Need-loop-less Inv-loop μ-loop
 loop-less c = search needs
 
--- src/lib.rt:136:5
 loop-again : tie.Need-loop-again Inv-loop μ-loop
 loop-again c =
     let a = c .before .before .args in
     let l = c .before .loop in
     (search needs, (simp length-set (l .inv .1 .0), sets-same (a .area .now) (a .from) (l .k) (pos 0) (l .inv .1 .1)))
 
--- src/lib.rt:131:1
 same-length : tie.Need-same-length Inv-loop μ-loop
 same-length c = search needs
 
--- src/lib.rt:131:1
 returns : tie.Need-returns Inv-loop μ-loop
 returns c =
     let a = c .before .before .args in

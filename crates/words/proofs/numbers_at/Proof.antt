@@ -1,17 +1,14 @@
-use mathlib.Core.Path.{_≡_, refl, sym, ap, _∙_}
-use mathlib.Core.List.{List, [], _∷_, _++_}
-use Prim.Native.Nat.{ℕ, _+_, _-_, _<_, _≤_}
+use mathlib.Core.Path.{_≡_, refl, _∙_}
+use Prim.Native.Nat.{_+_, _-_, _≤_}
 use native.Mathlib.Omega.{arith}
 use borrow.Author.Needs.{needs}
-use lib.IntN.{ℤ, pos}
-use lib.ListN.{length, getD, take, drop, set, replicate, length-set, length-drop}
-use lib.Seq.{sets, take-all}
+use lib.IntN.{pos}
+use lib.ListN.{length, getD, take, drop, replicate, length-set}
+use lib.Seq.{sets}
 use Rattle.words.proofs.Signed.{back}
-use Rattle.words.proofs.Splice.{read-more, read-all, sets-more, sets-same}
+use Rattle.words.proofs.Splice.{read-more, read-all}
 use Rattle.words.proofs.numbers_at.Statement.{statement}
 use Rattle.words.proofs.numbers_at.Tie as tie
-use Rattle.words.proofs.numbers_at.Reads as reads
-use Rattle.words.proofs.numbers_at.Lts as lts
 
 abbrev Inv-loop : tie.InvT-loop
 Inv-loop area p numbers₀ k₀ numbers k = (k ≤ 32) × ((length numbers ≡ 32) × (numbers ≡ sets (replicate 32 (pos 0)) 0 (take k (drop p area))))
@@ -19,46 +16,36 @@ Inv-loop area p numbers₀ k₀ numbers k = (k ≤ 32) × ((length numbers ≡ 3
 abbrev μ-loop : tie.MeasureT-loop
 μ-loop area p numbers₀ k₀ numbers k = 32 - k
 
--- src/lib.rt:109:5
 loop-holds : tie.Need-loop-holds Inv-loop μ-loop
 loop-holds c = search needs
 
--- src/lib.rt:110:22
 add-v : tie.Need-add-v Inv-loop μ-loop
 add-v c = search needs
 
--- src/lib.rt:110:17
 mul-v : tie.Need-mul-v Inv-loop μ-loop
 mul-v c = search needs
 
--- src/lib.rt:110:17
 shared-slice-copy-out-v : tie.Need-shared-slice-copy-out-v Inv-loop μ-loop
 shared-slice-copy-out-v c = search needs
 
--- src/lib.rt:111:9
 mul-numbers : tie.Need-mul-numbers Inv-loop μ-loop
 mul-numbers c = search needs
 
--- src/lib.rt:111:9
 array-set-from-numbers : tie.Need-array-set-from-numbers Inv-loop μ-loop
 array-set-from-numbers c = search needs
 
--- src/lib.rt:112:9
 add-k : tie.Need-add-k Inv-loop μ-loop
 add-k c = search needs
 
--- src/lib.rt:109:5
 loop-less : tie.Need-loop-less Inv-loop μ-loop
 loop-less c = search needs
 
--- src/lib.rt:109:5
 loop-again : tie.Need-loop-again Inv-loop μ-loop
 loop-again c =
     let a = c .before .before .before .args in
     let l = c .before .before .loop in
     (search needs, (simp length-set (l .inv .1 .0), rw (back (getD (a .area .now) (a .p + l .k) (pos 0)) (c .v .given)) (read-more (replicate 32 (pos 0)) (a .area .now) (a .p) (l .k) (pos 0) (omega arith) (l .inv .1 .1))))
 
--- src/lib.rt:103:1
 returns : tie.Need-returns Inv-loop μ-loop
 returns c =
     let a = c .before .before .args in

@@ -1,17 +1,14 @@
-use mathlib.Core.Path.{_≡_, refl, sym, ap, _∙_}
-use mathlib.Core.List.{List, [], _∷_, _++_}
-use Prim.Native.Nat.{ℕ, _+_, _-_, _<_, _≤_}
+use mathlib.Core.Path.{_≡_, ap, _∙_}
+use Prim.Native.Nat.{_-_, _<_, _≤_}
 use native.Mathlib.Omega.{arith}
 use borrow.Author.Needs.{needs}
-use lib.IntN.{ℤ, pos}
-use lib.ListN.{length, getD, take, drop, set, replicate, length-set, length-drop}
+use lib.IntN.{pos}
+use lib.ListN.{length, getD, take, length-set}
 use lib.Seq.{sets, take-all}
 use Rattle.words.proofs.Signed.{back}
-use Rattle.words.proofs.Splice.{read-more, read-all, sets-more, sets-same}
+use Rattle.words.proofs.Splice.{sets-more}
 use Rattle.words.proofs.put_numbers.Statement.{statement}
 use Rattle.words.proofs.put_numbers.Tie as tie
-use Rattle.words.proofs.put_numbers.Reads as reads
-use Rattle.words.proofs.put_numbers.Lts as lts
 
 abbrev Inv-loop : tie.InvT-loop
 Inv-loop area₀ p numbers k₀ area k = (k ≤ 32) × ((length area ≡ length area₀) × (area ≡ sets area₀ p (take k numbers)))
@@ -19,39 +16,30 @@ Inv-loop area₀ p numbers k₀ area k = (k ≤ 32) × ((length area ≡ length 
 abbrev μ-loop : tie.MeasureT-loop
 μ-loop area₀ p numbers k₀ area k = 32 - k
 
--- src/lib.rt:123:5
 loop-holds : tie.Need-loop-holds Inv-loop μ-loop
 loop-holds c = search needs
 
--- src/lib.rt:124:17
 mul-v : tie.Need-mul-v Inv-loop μ-loop
 mul-v c = search needs
 
--- src/lib.rt:124:17
 array-copy-out-v : tie.Need-array-copy-out-v Inv-loop μ-loop
 array-copy-out-v c = search needs
 
--- src/lib.rt:125:14
 add-v : tie.Need-add-v Inv-loop μ-loop
 add-v c = search needs
 
--- src/lib.rt:125:9
 mul-v-2 : tie.Need-mul-v-2 Inv-loop μ-loop
 mul-v-2 c = search needs
 
--- src/lib.rt:125:9
 slice-set-from-v : tie.Need-slice-set-from-v Inv-loop μ-loop
 slice-set-from-v c = search needs
 
--- src/lib.rt:126:9
 add-k : tie.Need-add-k Inv-loop μ-loop
 add-k c = search needs
 
--- src/lib.rt:123:5
 loop-less : tie.Need-loop-less Inv-loop μ-loop
 loop-less c = search needs
 
--- src/lib.rt:123:5
 loop-again : tie.Need-loop-again Inv-loop μ-loop
 loop-again c =
     let a = c .before .before .before .args in
@@ -59,11 +47,9 @@ loop-again c =
     let h : l .k < length (a .t3) = search needs in
     (search needs, (simp length-set (l .inv .1 .0), rw (back (getD (a .t3) (l .k) (pos 0)) (c .v .given)) (sets-more (a .area .now) (a .t3) (a .p) (l .k) (pos 0) h (l .inv .1 .1))))
 
--- src/lib.rt:118:1
 same-length : tie.Need-same-length Inv-loop μ-loop
 same-length c = search needs
 
--- src/lib.rt:118:1
 returns : tie.Need-returns Inv-loop μ-loop
 returns c =
     let a = c .before .before .args in

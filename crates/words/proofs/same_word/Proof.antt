@@ -1,10 +1,7 @@
 use Rattle.words.proofs.same_word.Statement.{statement}
 use Rattle.words.proofs.same_word.Tie as tie
-use Rattle.words.proofs.same_word.Reads as reads
-use Rattle.words.proofs.same_word.Lts as lts
 use Rattle.bridge.proofs.Bits.{same-bits}
 
--- src/lib.rt:59:1
 returns : tie.Need-returns
 returns c = same-bits (c .args .a) (c .args .b) (c .fits .a) (c .fits .b)
 

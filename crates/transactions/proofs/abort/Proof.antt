@@ -1,0 +1,26 @@
+use Prim.Native.Nat.{_-_}
+use native.Mathlib.Omega.{arith}
+use Rattle.bridge.proofs.SoundLaws.{undoable}
+use Rattle.transactions.proofs.Steps as step
+use borrow.Author.Needs.{needs}
+use Rattle.transactions.proofs.abort.Statement.{statement}
+use Rattle.transactions.proofs.abort.Tie as tie
+
+undo-to-requires : tie.Need-undo-to-requires
+undo-to-requires c κs = undoable (c .before .before .pre .0)
+
+load-kept-requires : tie.Need-load-kept-requires
+load-kept-requires c κs = (step.area-long (step.abort-mid (c .before .before .before .before .before .pre .0 .ready .fit) (c .before .before .before .before .before .pre .1) (c .before .before .undo-to .ensures) .fit), omega arith)
+
+end-requires : tie.Need-end-requires
+end-requires c κs = record { accepted = c .before .before .before .before .before .before .before .before .pre .0 .ready .accepted; fit = step.abort-loaded (c .before .before .before .before .before .before .before .before .pre .0 .ready .fit) (c .before .before .before .before .before .before .before .before .pre .1) (c .before .before .before .before .before .undo-to .ensures) (c .before .before .load-kept .ensures) .fit }
+
+same-length : tie.Need-same-length
+same-length c = search needs
+
+returns : tie.Need-returns
+returns c = step.abort-holds (c .before .before .before .before .before .before .before .before .before .before .pre .0 .ready .fit) (c .before .before .before .before .before .before .before .before .before .before .pre .1) (c .before .before .before .before .before .before .before .undo-to .ensures) (c .before .before .before .before .load-kept .ensures) (c .before .end .ensures)
+
+pub abort-spec : {M : Type 1} → statement M
+abort-spec =
+    tie.close (tie.spec undo-to-requires load-kept-requires end-requires same-length returns)

@@ -1,0 +1,45 @@
+use mathlib.Core.Path.{sym, ap, _∙_}
+use Prim.Native.Nat.{_-_}
+use native.Mathlib.Omega.{arith}
+use borrow.Author.Tests.{not-true, not-false}
+use Rattle.schema.specs.Fields.{schemaOf}
+use Rattle.rules.specs.Values.{allZero}
+use Rattle.rules.specs.Area.{view}
+use Rattle.transactions.proofs.Turns as turn
+use Rattle.transactions.proofs.Steps as step
+use borrow.Author.Needs.{needs}
+use Rattle.transactions.proofs.commit_now.Statement.{statement}
+use Rattle.transactions.proofs.commit_now.Tie as tie
+
+numbers-at-requires : tie.Need-numbers-at-requires
+numbers-at-requires c κs = omega (arith, step.area-long (c .before .before .pre .fit))
+
+all-zero-requires : tie.Need-all-zero-requires
+all-zero-requires c κs = search needs
+
+same-length : tie.Need-same-length
+same-length c = search needs
+
+returns : tie.Need-returns
+returns c = turn.turn-same (c .before .before .before .before .before .pre .fit) (turn.commit-refused (schemaOf (c .before .before .before .before .before .args .schema .now)) (view (schemaOf (c .before .before .before .before .before .args .schema .now)) (c .before .before .before .before .before .args .area .now)) (ap allZero (step.kept-word (schemaOf (c .before .before .before .before .before .args .schema .now)) (c .before .before .before .before .before .args .area .now) ∙ sym (c .before .before .numbers-at .ensures)) ∙ sym (c .before .all-zero .ensures) ∙ not-true _ (c .if1 .taken)))
+
+end-requires : tie.Need-end-requires
+end-requires c κs = search needs
+
+same-length-2 : tie.Need-same-length-2
+same-length-2 c = search needs
+
+returns-2 : tie.Need-returns-2
+returns-2 c = turn.turn-words (c .before .end .ensures) (turn.commit-ends (schemaOf (c .before .before .before .before .before .before .before .before .args .schema .now)) (view (schemaOf (c .before .before .before .before .before .before .before .before .args .schema .now)) (c .before .before .before .before .before .before .before .before .args .area .now)) (ap allZero (step.kept-word (schemaOf (c .before .before .before .before .before .before .before .before .args .schema .now)) (c .before .before .before .before .before .before .before .before .args .area .now) ∙ sym (c .before .before .before .before .before .numbers-at .ensures)) ∙ sym (c .before .before .before .before .all-zero .ensures) ∙ not-false _ (c .before .before .before .if1 .left)))
+
+pub commit-now-spec : {M : Type 1} → statement M
+commit-now-spec =
+    tie.close
+    (tie.spec
+    numbers-at-requires
+    all-zero-requires
+    same-length
+    returns
+    end-requires
+    same-length-2
+    returns-2)

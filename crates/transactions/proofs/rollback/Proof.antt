@@ -1,0 +1,50 @@
+use mathlib.Core.Path.{sym, _∙_}
+use Prim.Native.Nat.{_-_}
+use native.Mathlib.Omega.{arith}
+use mir.Syntax.{w64}
+use mir.Val.{toZ, ofZ}
+use Rattle.schema.specs.Fields.{schemaOf}
+use Rattle.rules.specs.Area.{view}
+use Rattle.words.proofs.Signed.{back}
+use Rattle.transactions.proofs.Turns as turn
+use Rattle.transactions.proofs.Steps as step
+use borrow.Author.Needs.{needs}
+use Rattle.transactions.proofs.rollback.Statement.{statement}
+use Rattle.transactions.proofs.rollback.Tie as tie
+
+nat-at-requires : tie.Need-nat-at-requires
+nat-at-requires c κs = omega (arith, step.area-long (c .before .before .pre .ready .fit))
+
+same-length : tie.Need-same-length
+same-length c = search needs
+
+returns : tie.Need-returns
+returns c = turn.turn-same (c .before .before .before .before .pre .ready .fit) (turn.rollback-outside (schemaOf (c .before .before .before .before .args .schema .now)) (view (schemaOf (c .before .before .before .before .args .schema .now)) (c .before .before .before .before .args .area .now)) (sym (step.count-is (c .before .before .before .before .pre .ready .fit) (c .before .nat-at .ensures)) ∙ c .if1 .taken))
+
+nat-at-requires-2 : tie.Need-nat-at-requires-2
+nat-at-requires-2 c κs = omega (arith, step.area-long (c .before .before .before .before .before .pre .ready .fit))
+
+net-to-requires : tie.Need-net-to-requires
+net-to-requires c κs = ((step.area-long (c .before .before .before .before .before .before .before .pre .ready .fit), omega arith), (step.kept-bound (c .before .before .before .before .before .before .before .args .schema .now) (c .before .before .before .before .before .before .before .pre), step.saved-bound (c .before .before .before .before .before .before .before .args .schema .now) (c .before .before .before .before .before .before .before .pre) 0 (step.positive _ (λ z. c .before .before .before .if1 .left (step.count-is (c .before .before .before .before .before .before .before .pre .ready .fit) (c .before .before .before .before .nat-at .ensures) ∙ z)))))
+
+abort-requires : tie.Need-abort-requires
+abort-requires c κs = (c .before .before .before .before .before .before .before .before .before .pre, (step.positive _ (λ z. c .before .before .before .before .before .if1 .left (step.count-is (c .before .before .before .before .before .before .before .before .before .pre .ready .fit) (c .before .before .before .before .before .before .nat-at .ensures) ∙ z))))
+
+same-length-2 : tie.Need-same-length-2
+same-length-2 c = search needs
+
+returns-2 : tie.Need-returns-2
+returns-2 c = turn.turn-words (c .before .abort .ensures) (turn.rollback-inside (schemaOf (c .before .before .before .before .before .before .before .before .before .before .before .args .schema .now)) (view (schemaOf (c .before .before .before .before .before .before .before .before .before .before .before .args .schema .now)) (c .before .before .before .before .before .before .before .before .before .before .before .args .area .now)) (step.positive _ (λ z. c .before .before .before .before .before .before .before .if1 .left (step.count-is (c .before .before .before .before .before .before .before .before .before .before .before .pre .ready .fit) (c .before .before .before .before .before .before .before .before .nat-at .ensures) ∙ z))) ∙ step.abort-answer (c .before .before .before .before .before .before .before .before .before .before .before .pre .ready .fit) (step.positive _ (λ z. c .before .before .before .before .before .before .before .if1 .left (step.count-is (c .before .before .before .before .before .before .before .before .before .before .before .pre .ready .fit) (c .before .before .before .before .before .before .before .before .nat-at .ensures) ∙ z))) (c .before .before .before .before .before .nat-at2 .result) (toZ w64 (ofZ w64 (c .before .before .before .net-to .result))) (step.used-is (c .before .before .before .before .before .before .before .before .before .before .before .pre .ready .fit) (c .before .before .before .before .before .nat-at2 .ensures)) (back _ (c .before .before .before .net-to .ok) ∙ c .before .before .before .net-to .ensures))
+
+pub rollback-spec : {M : Type 1} → statement M
+rollback-spec =
+    tie.close
+    (tie.spec
+    nat-at-requires
+    same-length
+    returns
+    nat-at-requires-2
+    net-to-requires
+    abort-requires
+    same-length-2
+    returns-2)

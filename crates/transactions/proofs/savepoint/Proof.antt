@@ -1,0 +1,43 @@
+use mathlib.Core.Path.{sym, _∙_}
+use Prim.Native.Nat.{_-_}
+use native.Mathlib.Omega.{arith}
+use Rattle.schema.specs.Fields.{schemaOf}
+use Rattle.rules.specs.Area.{view}
+use Rattle.transactions.proofs.Turns as turn
+use Rattle.transactions.proofs.Steps as step
+use borrow.Author.Needs.{needs}
+use Rattle.transactions.proofs.savepoint.Statement.{statement}
+use Rattle.transactions.proofs.savepoint.Tie as tie
+
+nat-at-requires : tie.Need-nat-at-requires
+nat-at-requires c κs = omega (arith, step.area-long (c .before .before .pre .ready .fit))
+
+same-length : tie.Need-same-length
+same-length c = search needs
+
+returns : tie.Need-returns
+returns c = turn.turn-same (c .before .before .before .before .pre .ready .fit) (turn.savepoint-full (schemaOf (c .before .before .before .before .args .schema .now)) (view (schemaOf (c .before .before .before .before .args .schema .now)) (c .before .before .before .before .args .area .now)) (step.closed-none (c .before .before .before .before .pre .ready .fit) (sym (c .before .nat-at .ensures) ∙ c .if1 .taken)))
+
+opener-of-requires : tie.Need-opener-of-requires
+opener-of-requires c κs = omega (arith, step.area-long (c .before .before .before .before .before .pre .ready .fit))
+
+open-next-requires : tie.Need-open-next-requires
+open-next-requires c κs = (c .before .before .before .before .before .before .before .pre .ready, (step.closed-some (c .before .before .before .before .before .before .before .pre .ready .fit) (let k = step.levels-at-most (c .before .before .before .before .before .before .before .pre .ready .fit) in let ne = c .before .before .before .if1 .left in omega (arith, c .before .before .before .before .nat-at .ensures)), step.opener-small (c .before .before .before .before .before .before .before .args .schema .now) (c .before .before .before .before .before .before .before .pre) (c .before .before .before .before .nat-at .ensures) (c .before .opener-of .ensures)))
+
+same-length-2 : tie.Need-same-length-2
+same-length-2 c = search needs
+
+returns-2 : tie.Need-returns-2
+returns-2 c = turn.turn-words (c .before .open-next .ensures) (turn.savepoint-opens (schemaOf (c .before .before .before .before .before .before .before .before .before .args .schema .now)) (view (schemaOf (c .before .before .before .before .before .before .before .before .before .args .schema .now)) (c .before .before .before .before .before .before .before .before .before .args .area .now)) (c .before .before .before .opener-of .result) (step.opener-is (c .before .before .before .before .before .before .before .before .before .args .schema .now) (c .before .before .before .before .before .before .before .before .before .pre) (c .before .before .before .before .before .before .nat-at .ensures) (c .before .before .before .opener-of .ensures)) (step.closed-some (c .before .before .before .before .before .before .before .before .before .pre .ready .fit) (let k = step.levels-at-most (c .before .before .before .before .before .before .before .before .before .pre .ready .fit) in let ne = c .before .before .before .before .before .if1 .left in omega (arith, c .before .before .before .before .before .before .nat-at .ensures))))
+
+pub savepoint-spec : {M : Type 1} → statement M
+savepoint-spec =
+    tie.close
+    (tie.spec
+    nat-at-requires
+    same-length
+    returns
+    opener-of-requires
+    open-next-requires
+    same-length-2
+    returns-2)
