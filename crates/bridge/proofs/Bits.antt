@@ -11,7 +11,8 @@ use mir.Facts.{toZ-ofZ}
 use Rattle.bridge.proofs.Tests.{holds, passes}
 use Rattle.rules.specs.Values.{sameValue}
 
-both-ways : (a b : Bool) → (a ≡ true → b ≡ true) → (b ≡ true → a ≡ true) → a ≡ b
+-- tests that give each other are equal
+pub both-ways : (a b : Bool) → (a ≡ true → b ≡ true) → (b ≡ true → a ≡ true) → a ≡ b
 both-ways true b f g = sym (f refl)
 both-ways false true f g = g refl
 both-ways false false f g = refl

@@ -9,7 +9,9 @@ pub mod JournalWords
 pub mod RoundTrip
 pub mod RowWords
 pub mod UndoWords
+pub mod LevelWords
 pub mod ClearWords
 pub mod Bits
 pub mod HoldLaws
 pub mod SoundLaws
+pub mod KeyLaws

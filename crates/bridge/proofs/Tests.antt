@@ -13,6 +13,10 @@ use Rattle.schema.specs.Ranges.{all}
 pub and-both : {a b : Bool} → a ≡ true → b ≡ true → a && b ≡ true
 and-both p q = rw (p, q)
 
+-- tests that agree one by one
+pub and-same : {a b p q : Bool} → a ≡ p → b ≡ q → a && b ≡ p && q
+and-same e f = rw (e, f) refl
+
 pub holds : {a : Bool} → a ≡ true → T a
 holds h = rw h tt
 
@@ -44,6 +48,14 @@ module _ {A : Type 0} (p : A → Bool) where
       go : (a : Bool) → elim a [ true ↦ all p xs | false ↦ false ] ≡ true → all p xs ≡ true
       go true h = h
       go false h = absurd (false≢true h)
+
+  pub all-yes : (x : A) (xs : List A) → p x ≡ true → all p (x ∷ xs) ≡ all p xs
+  unfolding all
+  all-yes x xs h = rw (h, all) refl
+
+  pub all-no : (x : A) (xs : List A) → p x ≡ false → all p (x ∷ xs) ≡ false
+  unfolding all
+  all-no x xs h = rw (h, all) refl
 
   pub all-append : (xs ys : List A) → all p xs ≡ true → all p ys ≡ true → all p (xs ++ ys) ≡ true
   all-append [] ys h k = k

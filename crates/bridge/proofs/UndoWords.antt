@@ -99,6 +99,16 @@ words-pop b e us top h =
     ap (λ x. pos (length (b .levels)) ∷ pos (b .opener) ∷ pos (length us) ∷ 𝟘 ∷ (b .kept ++ (ls ++ (rs ++ x)))) (flat-pop w e us top h)
     ∙ ap (λ l. set l 2 (pos (length us))) (sym (ap (λ m. splice m z (words b)) e₃ ∙ e₂))
 
+-- record j's words in the area
+pub record-at : (s : Schema) (a : List ℤ) (j : ℕ) → j < s .room → getD (recordPart s a) j [] ≡ take 10 (drop (333 + rowsSize (s .tables) + j * 10) a)
+unfolding recordPart rowPart
+record-at s a j h =
+    let q : 333 + (rowsSize (s .tables) + j * 10) ≡ 333 + rowsSize (s .tables) + j * 10 = omega arith in
+    getD-chunks 10 (s .room) j (drop (rowsSize (s .tables)) (drop 297 (drop 32 (drop 4 a)))) h
+    ∙ ap (take 10) (drop-drop (j * 10) (rowsSize (s .tables)) (drop 297 (drop 32 (drop 4 a)))
+    ∙ ap (drop (rowsSize (s .tables) + j * 10)) (ap (drop 297) (drop-drop 32 4 a) ∙ drop-drop 297 36 a)
+    ∙ drop-drop (rowsSize (s .tables) + j * 10) 333 a ∙ ap (λ n. drop n a) q)
+
 -- the newest record, by the words
 pub noEntry : Entry
 noEntry = record { table = 0; row = 0; old = [] }
@@ -113,13 +123,8 @@ module _ {s : Schema} {a : List ℤ} (f : Fit s a) (u : ℕ) (e : natOf (getD a 
   small = let h : natOf (getD a 2 𝟘) ≤ s .room = leb→le _ (s .room) (holds (every-at _ (f .legible-is) 4 (omega arith))) in omega arith
 
   record-words : getD (recordPart s a) u [] ≡ take 10 (drop at a)
-  unfolding recordPart rowPart at
-  record-words =
-      let q : 333 + (rowsSize (s .tables) + u * 10) ≡ 333 + rowsSize (s .tables) + u * 10 = omega arith in
-      getD-chunks 10 (s .room) u (drop (rowsSize (s .tables)) (drop 297 (drop 32 (drop 4 a)))) small
-      ∙ ap (take 10) (drop-drop (u * 10) (rowsSize (s .tables)) (drop 297 (drop 32 (drop 4 a)))
-      ∙ ap (drop (rowsSize (s .tables) + u * 10)) (ap (drop 297) (drop-drop 32 4 a) ∙ drop-drop 297 36 a)
-      ∙ drop-drop (rowsSize (s .tables) + u * 10) 333 a ∙ ap (λ n. drop n a) q)
+  unfolding at
+  record-words = record-at s a u small
 
   at-fits : at + 10 ≤ length a
   unfolding at areaSize

@@ -2,6 +2,7 @@
 ghost use mathlib.Core.Path.{_≡_};
 ghost use Prim.Native.Nat.{suc, _+_, _*_, _≤_, _<_};
 ghost use lib.IntN.{pos};
+ghost use lib.Dec.{ltb};
 ghost use lib.ListN.{length, getD, take};
 ghost use Rattle.schema.specs.Bounds.{Within, Columns};
 ghost use Rattle.schema.specs.Records.{tableOf, keyOf};
@@ -61,6 +62,17 @@ pub fn columns(bytes: &[u8], t: usize) -> usize
     ensures { λ r. ⌜ (r ≡ tableOf (schemaOf (now (bytes .entry))) t .columns) × Within 1 8 r ⌝ }
 {
     table_byte(bytes, t, 2)
+}
+
+// Whether there is a table t that has a row r.
+pub fn is_in_table(bytes: &[u8], t: usize, r: usize) -> bool
+    requires { ⌜ checkSchema (now bytes) ≡ SchemaAnswer.Accepted ⌝ }
+    ensures { λ x. ⌜ x ≡ ltb r (tableOf (schemaOf (now (bytes .entry))) t .rows) ⌝ }
+{
+    if table_count(bytes) <= t {
+        return false;
+    }
+    r < rows(bytes, t)
 }
 
 // The NOT NULL mask of table t.

@@ -1,16 +1,16 @@
 -- A signed local holds bits: what a test or a cast of it says of the word itself. Assumes nothing.
 use mathlib.Core.Path.{_≡_, refl, subst}
-use mathlib.Core.Bool.{true, false}
-use Prim.Native.Nat.{_-_, _^_, _<_}
+use mathlib.Core.Bool.{true, false, _&&_}
+use Prim.Native.Nat.{ℕ, _-_, _^_, _<_}
 use native.Mathlib.Omega.{arith}
 use lib.IntN.{ℤ, pos, negsuc, natAbs}
-use lib.Dec.{T}
-use lib.Signed.{ltZ, nonNeg, mag}
+use lib.Dec.{T, leb, leb·zero}
+use lib.Signed.{ltZ, leZ, nonNeg, mag}
 use mir.Syntax.{w64}
 use mir.Val.{Fits, SFits, toZ, ofZ}
 use mir.ValLaws.{toZ-ofZ}
 use borrow.Author.Tests.{ltb-true}
-use Rattle.rules.specs.Values.{natOf}
+use Rattle.rules.specs.Values.{natOf, natural, inRange}
 
 -- a word that was read, through the local that holds its bits
 pub back : (z : ℤ) → mag z < 2 ^ 63 → toZ w64 (ofZ w64 z) ≡ z
@@ -44,3 +44,18 @@ nonneg z f e = rw (toZ-ofZ w64 z f) (nonneg′ z f (rw (toZ-ofZ w64 z f) at e))
 -- and is the word's number
 pub nonneg-nat : (z : ℤ) → SFits w64 z → ltZ (toZ w64 (ofZ w64 z)) (pos 0) ≡ false → natAbs (toZ w64 (ofZ w64 z)) ≡ natOf z
 nonneg-nat z f e = rw (toZ-ofZ w64 z f) (nonneg-nat′ z (rw (toZ-ofZ w64 z f) at e))
+
+natural′ : (z : ℤ) → leZ (pos 0) z ≡ natural z
+unfolding natural
+natural′ (pos n) = leb·zero n
+natural′ (negsuc n) = refl
+
+-- what x reads back as is not negative
+pub natural-is : (z : ℤ) → SFits w64 z → leZ (pos 0) (toZ w64 (ofZ w64 z)) ≡ natural z
+natural-is z f = rw (toZ-ofZ w64 z f) (natural′ z)
+
+-- a number from 0 to n
+pub in-range-is : (n : ℕ) (z : ℤ) → natural z && leb (natOf z) n ≡ inRange n z
+unfolding natural natOf inRange
+in-range-is n (pos m) = refl
+in-range-is n (negsuc m) = refl

@@ -7,7 +7,7 @@ ghost use lib.IntN.{ℤ, pos};
 ghost use lib.ListN.{length, getD, take, drop, replicate};
 ghost use lib.Seq.{sets};
 ghost use Rattle.rules.specs.Lists.{padded};
-ghost use Rattle.rules.specs.Values.{natOf, sameValue};
+ghost use Rattle.rules.specs.Values.{natOf, natural, inRange, sameValue};
 
 // A word as a number; 0 where it is negative.
 pub fn nat_of(w: i64) -> usize
@@ -40,6 +40,37 @@ pub fn nat_at(area: &[i64], i: usize) -> usize
     ensures { λ r. ⌜ r ≡ natOf (getD (now (area .entry)) i (pos 0)) ⌝ }
 {
     nat_of(area[i])
+}
+
+// Whether a word is not negative.
+pub fn is_natural(w: i64) -> bool
+    ensures { λ r. ⌜ r ≡ natural w ⌝ }
+{
+    0 <= w
+}
+
+// Whether the word at i is not negative.
+pub fn is_natural_at(area: &[i64], i: usize) -> bool
+    requires { ⌜ i < length (now area) ⌝ }
+    ensures { λ r. ⌜ r ≡ natural (getD (now (area .entry)) i (pos 0)) ⌝ }
+{
+    is_natural(area[i])
+}
+
+// Whether the word at i is 0.
+pub fn is_zero_at(area: &[i64], i: usize) -> bool
+    requires { ⌜ i < length (now area) ⌝ }
+    ensures { λ r. ⌜ r ≡ sameValue (pos 0) (getD (now (area .entry)) i (pos 0)) ⌝ }
+{
+    same_word(0, area[i])
+}
+
+// Whether the word at i is a number from 0 to n.
+pub fn is_in_range_at(area: &[i64], i: usize, n: usize) -> bool
+    requires { ⌜ i < length (now area) ⌝ }
+    ensures { λ r. ⌜ r ≡ inRange n (getD (now (area .entry)) i (pos 0)) ⌝ }
+{
+    is_natural_at(area, i) & (nat_at(area, i) <= n)
 }
 
 // Writes the first `count` words of an image, its state and its values, at `at` of the table.

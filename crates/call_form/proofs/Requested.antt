@@ -1,0 +1,146 @@
+-- What a request that was read says of its call.
+-- Assumes nothing.
+use mathlib.Core.Path.{_≡_, refl, sym, _∙_, ap, ap₂}
+use mathlib.Core.Bool.{Bool, true, false, _&&_, false≢true}
+use mathlib.Core.List.{List, [], _∷_}
+use Prim.Native.Nat.{ℕ, _+_, _^_, _<_}
+use native.Mathlib.Nat.{mod-eq-of-lt}
+use native.Mathlib.Omega.{arith}
+use borrow.Author.Tests.{leb-true, ltb-true, eqb-true}
+use lib.Dec.{leb, ltb, eqb}
+use lib.IntN.{ℤ, pos}
+use lib.ListN.{length, getD, drop}
+use Rattle.schema.specs.Bounds.{Within}
+use Rattle.schema.specs.Records.{Table, Schema, tableOf}
+use Rattle.schema.proofs.RangeLaws.{and-left, and-right}
+use Rattle.schema.proofs.Formed.{and3}
+use Rattle.rules.specs.Lists.{𝟘}
+use Rattle.rules.specs.Values.{natOf, natural, sameValue, sameValues, allZero}
+use Rattle.rules.specs.Rows.{held, liveImage}
+use Rattle.rules.specs.Calls.{Call, malformed, insert, update, delete, begin, savepoint, release, rollbackTo, rollback, commit, formedIf, parsed, parse, inTable, rowFits, levelNumber, allowed}
+use Rattle.bridge.proofs.Bits.{same-eq}
+use Rattle.bridge.proofs.UndoWords.{in-tables}
+use Rattle.call_form.specs.declared.Request.the-variants.{Malformed, Insert, Update, Delete, Release, RollbackTo}
+use Rattle.call_form.specs.Requests.{callOf, judged}
+
+-- a row request: its row is in its table, and the call has twelve words
+pub record RowRequest (s : Schema) (ws : List ℤ) (t r : ℕ) : Type 0 where
+  pub table : t < length (s .tables)
+  pub row : r < tableOf s t .rows
+  pub size : length ws ≡ 12
+
+-- an insertion's or an update's mask and values: no bit past the columns, and they are the image that is written
+pub record GivenImage (columns m : ℕ) (vs : List ℤ) : Type 0 where
+  pub mask : m < 2 ^ columns
+  pub image : liveImage columns m vs ≡ pos (256 + m) ∷ vs
+
+-- a call that is not refused
+unfoldable pub isCall : Call → Bool
+isCall malformed = false
+isCall (insert t r m vs) = true
+isCall (update t r m vs) = true
+isCall (delete t r) = true
+isCall begin = true
+isCall savepoint = true
+isCall (release a) = true
+isCall (rollbackTo a) = true
+isCall rollback = true
+isCall commit = true
+
+-- refusal 4 does not refuse it, and it is the call that was read
+pub record Read (s : Schema) (ws : List ℤ) (c : Call) : Type 0 where
+  pub allowed-is : allowed s (parse ws) ≡ true
+  pub parsed-is : parse ws ≡ c
+
+read-allowed : {s : Schema} {ws : List ℤ} {c : Call} → Read s ws c → allowed s c ≡ true
+read-allowed {s} q = ap (allowed s) (sym (q .parsed-is)) ∙ q .allowed-is
+
+no-call : (c : Call) → c ≡ malformed → isCall c ≡ true → ⊥
+unfolding isCall
+no-call c e h = let z : true ≡ false = sym h ∙ ap isCall e in let y : _≡_ {A = ℕ} 0 1 = cc in omega arith
+
+same-values : (xs ys : List ℤ) → sameValues xs ys ≡ true → xs ≡ ys
+unfolding sameValues
+same-values [] [] h = refl
+same-values [] (y ∷ ys) h = absurd (false≢true h)
+same-values (x ∷ xs) [] h = absurd (false≢true h)
+same-values (x ∷ xs) (y ∷ ys) h = ap₂ (λ v vs. v ∷ vs) (same-eq x y (and-left (sameValue x y) (sameValues xs ys) h)) (same-values xs ys (and-right (sameValue x y) (sameValues xs ys) h))
+
+fits-image : (t : Table) (m : ℕ) (vs : List ℤ) → rowFits t m vs ≡ true → GivenImage (t .columns) m vs
+unfolding rowFits liveImage
+fits-image t m vs e =
+    let p = and3 (ltb m (2 ^ t .columns)) (allZero (drop (t .columns) vs)) (sameValues vs (held m 0 vs)) e in
+    let l : m < 2 ^ t .columns = ltb-true m (2 ^ t .columns) (p .0) in
+    record { mask = l; image = ap₂ (λ n l. pos (256 + n) ∷ l) (mod-eq-of-lt l) (sym (same-values vs (held m 0 vs) (p .2))) }
+
+module _ (s : Schema) (ws : List ℤ) where
+  -- the call of a request that is not `Malformed`
+  pub read-is : (c : Call) → isCall c ≡ true → c ≡ judged s (parse ws) → Read s ws c
+  unfolding judged formedIf
+  read-is c h e = go (allowed s (parse ws)) refl
+    where
+      go : (t : Bool) → allowed s (parse ws) ≡ t → Read s ws c
+      go true q = record { allowed-is = q; parsed-is = sym (e ∙ ap (λ t. formedIf t (parse ws)) q) }
+      go false q = absurd (no-call c (e ∙ ap (λ t. formedIf t (parse ws)) q) h)
+
+  -- the call of `Malformed` is refused
+  pub refused-is : callOf Malformed ws ≡ judged s (parse ws) → allowed s (parse ws) ≡ false
+  unfolding callOf judged formedIf allowed
+  refused-is e = go (allowed s (parse ws)) refl
+    where
+      go : (t : Bool) → allowed s (parse ws) ≡ t → t ≡ false
+      go false q = refl
+      go true q = sym q ∙ ap (allowed s) (sym (e ∙ ap (λ t. formedIf t (parse ws)) q))
+
+  size-is : (c : Call) → isCall c ≡ true → parse ws ≡ c → length ws ≡ 12
+  unfolding parse formedIf
+  size-is c h e = go (eqb (length ws) 12) refl
+    where
+      go : (t : Bool) → eqb (length ws) 12 ≡ t → length ws ≡ 12
+      go true q = eqb-true (length ws) 12 q
+      go false q = absurd (no-call c (sym e ∙ ap (λ t. formedIf (t && natural (getD ws 0 𝟘)) (parsed (natOf (getD ws 0 𝟘)) ws)) q) h)
+
+  row-is : (c : Call) (t r : ℕ) → isCall c ≡ true → c ≡ judged s (parse ws) → (allowed s c ≡ true → inTable s t r ≡ true) → RowRequest s ws t r
+  unfolding inTable
+  row-is c t r h e f =
+      let q : Read s ws c = read-is c h e in
+      let l : r < tableOf s t .rows = ltb-true r (tableOf s t .rows) (f (read-allowed q)) in
+      record { table = in-tables s t r l; row = l; size = size-is c h (q .parsed-is) }
+
+  image-is : (c : Call) (t : ℕ) → isCall c ≡ true → c ≡ judged s (parse ws) → (allowed s c ≡ true → rowFits (tableOf s t) (natOf (getD ws 3 𝟘)) (drop 4 ws) ≡ true)
+      → GivenImage (tableOf s t .columns) (natOf (getD ws 3 𝟘)) (drop 4 ws)
+  image-is c t h e f = fits-image (tableOf s t) (natOf (getD ws 3 𝟘)) (drop 4 ws) (f (read-allowed (read-is c h e)))
+
+  module _ (t r : ℕ) where
+    pub insert-row : callOf (Insert t r) ws ≡ judged s (parse ws) → RowRequest s ws t r
+    unfolding callOf isCall allowed
+    insert-row e = row-is (insert t r (natOf (getD ws 3 𝟘)) (drop 4 ws)) t r refl e (and-left (inTable s t r) _)
+
+    pub update-row : callOf (Update t r) ws ≡ judged s (parse ws) → RowRequest s ws t r
+    unfolding callOf isCall allowed
+    update-row e = row-is (update t r (natOf (getD ws 3 𝟘)) (drop 4 ws)) t r refl e (and-left (inTable s t r) _)
+
+    pub insert-image : callOf (Insert t r) ws ≡ judged s (parse ws) → GivenImage (tableOf s t .columns) (natOf (getD ws 3 𝟘)) (drop 4 ws)
+    unfolding callOf isCall allowed
+    insert-image e = image-is (insert t r (natOf (getD ws 3 𝟘)) (drop 4 ws)) t refl e (and-right (inTable s t r) _)
+
+    pub update-image : callOf (Update t r) ws ≡ judged s (parse ws) → GivenImage (tableOf s t .columns) (natOf (getD ws 3 𝟘)) (drop 4 ws)
+    unfolding callOf isCall allowed
+    update-image e = image-is (update t r (natOf (getD ws 3 𝟘)) (drop 4 ws)) t refl e (and-right (inTable s t r) _)
+
+    pub delete-row : callOf (Delete t r) ws ≡ judged s (parse ws) → RowRequest s ws t r
+    unfolding callOf isCall allowed
+    delete-row e = row-is (delete t r) t r refl e (λ h. h)
+
+  level-is : (a : ℕ) → levelNumber a ≡ true → Within 1 9 a
+  unfolding levelNumber
+  level-is a e = record { low = leb-true 1 a (and-left (leb 1 a) (leb a 9) e); high = leb-true a 9 (and-right (leb 1 a) (leb a 9) e) }
+
+  module _ (a : ℕ) where
+    pub release-level : callOf (Release a) ws ≡ judged s (parse ws) → Within 1 9 a
+    unfolding callOf isCall allowed
+    release-level e = let q : Read s ws (release a) = read-is (release a) refl e in level-is a (read-allowed q)
+
+    pub rollback-level : callOf (RollbackTo a) ws ≡ judged s (parse ws) → Within 1 9 a
+    unfolding callOf isCall allowed
+    rollback-level e = let q : Read s ws (rollbackTo a) = read-is (rollbackTo a) refl e in level-is a (read-allowed q)

@@ -1,0 +1,232 @@
+// Refusal 4: a call's twelve words read as a request.
+ghost use mathlib.Core.Path.{_≡_};
+ghost use Prim.Native.Nat.{_+_, _^_, _<_};
+ghost use lib.IntN.{pos};
+ghost use lib.Dec.{ltb};
+ghost use lib.ListN.{length, getD, drop};
+ghost use Rattle.schema.specs.Bytes.{bit};
+ghost use Rattle.schema.specs.Records.{tableOf};
+ghost use Rattle.schema.specs.Fields.{schemaOf};
+ghost use Rattle.schema.specs.Check.{checkSchema};
+ghost use Rattle.rules.specs.Values.{natOf, allZero, sameValues};
+ghost use Rattle.rules.specs.Rows.{held};
+ghost use Rattle.rules.specs.Calls.{release, rollbackTo, formedIf, parsed, parse, rowFits, levelNumber};
+ghost use Rattle.call_form.specs.Requests.{callOf, judged, TwelveWords, namesRow, givesRow, namesLevel, valueFits};
+use schema::SchemaAnswer;
+
+// What a call asks for: tables, rows and levels by number; the mask and the values of a row stay in the call's words.
+pub enum Request {
+    // Refusal 4.
+    Malformed,
+    Insert(usize, usize),
+    Update(usize, usize),
+    Delete(usize, usize),
+    Begin,
+    Savepoint,
+    Release(usize),
+    RollbackTo(usize),
+    Rollback,
+    Commit,
+}
+
+// ---- the words of a call
+
+// Whether the words from `from` on are all 0.
+fn all_zero_from(call: &[i64], from: usize) -> bool
+    ensures { λ r. ⌜ r ≡ allZero (drop from (now (call .entry))) ⌝ }
+{
+    let n = call.len();
+    let mut i = from;
+    while i < n {
+        if !words::is_zero_at(call, i) {
+            return false;
+        }
+        i += 1;
+    }
+    true
+}
+
+// Whether a mask has no bit at `columns` or above.
+fn is_mask(m: usize, columns: usize) -> bool
+    requires { ⌜ columns < 64 ⌝ }
+    ensures { λ r. ⌜ r ≡ ltb m (2 ^ columns) ⌝ }
+{
+    m >> columns == 0
+}
+
+// Whether the value of column i is 0 where the mask says NULL.
+fn value_fits(call: &[i64], m: usize, i: usize) -> bool
+    requires { ⌜ (length (now call) ≡ 12) × (i < 8) ⌝ }
+    ensures { λ r. ⌜ r ≡ valueFits (bit i m) (getD (now (call .entry)) (4 + i) (pos 0)) ⌝ }
+{
+    if numbers::bit_of(i, m) {
+        return words::is_zero_at(call, 4 + i);
+    }
+    true
+}
+
+// Whether every value of a NULL column is 0.
+fn values_fit(call: &[i64], m: usize) -> bool
+    requires { ⌜ length (now call) ≡ 12 ⌝ }
+    ensures { λ r. ⌜ r ≡ sameValues (drop 4 (now (call .entry))) (held m 0 (drop 4 (now (call .entry)))) ⌝ }
+{
+    let mut i = 0;
+    while i < 8 {
+        if !value_fits(call, m, i) {
+            return false;
+        }
+        i += 1;
+    }
+    true
+}
+
+// Whether mask and values are a row for table t.
+fn row_fits(schema: &[u8], call: &[i64], t: usize) -> bool
+    requires { ⌜ TwelveWords (now schema) (now call) × (t < length (schemaOf (now schema) .tables)) ⌝ }
+    ensures { λ r. ⌜ r ≡ rowFits (tableOf (schemaOf (now (schema .entry))) t) (natOf (getD (now (call .entry)) 3 (pos 0))) (drop 4 (now (call .entry))) ⌝ }
+{
+    let columns = fields::columns(schema, t);
+    let m = words::nat_at(call, 3);
+    is_mask(m, columns) & all_zero_from(call, 4 + columns) & values_fit(call, m)
+}
+
+// Whether words 1 and 2 are a table and a row of it.
+fn names_row(schema: &[u8], call: &[i64]) -> bool
+    requires { ⌜ TwelveWords (now schema) (now call) ⌝ }
+    ensures { λ r. ⌜ r ≡ namesRow (schemaOf (now (schema .entry))) (now (call .entry)) ⌝ }
+{
+    let t = words::nat_at(call, 1);
+    let r = words::nat_at(call, 2);
+    words::is_natural_at(call, 1)
+        & words::is_natural_at(call, 2)
+        & fields::is_in_table(schema, t, r)
+}
+
+// Whether words 1 and 2 are a table and a row of it, and the others a mask and values for it.
+fn gives_row(schema: &[u8], call: &[i64]) -> bool
+    requires { ⌜ TwelveWords (now schema) (now call) ⌝ }
+    ensures { λ r. ⌜ r ≡ givesRow (schemaOf (now (schema .entry))) (now (call .entry)) ⌝ }
+{
+    if !names_row(schema, call) {
+        return false;
+    }
+    let t = words::nat_at(call, 1);
+    words::is_natural_at(call, 3) & row_fits(schema, call, t)
+}
+
+// Whether a level's number is from 1 to 9.
+fn is_level(a: usize) -> bool
+    ensures { λ r. ⌜ r ≡ levelNumber a ⌝ }
+{
+    (1 <= a) & (a <= 9)
+}
+
+// Whether word 1 is a level, and the words past it are 0.
+fn names_level(call: &[i64]) -> bool
+    requires { ⌜ length (now call) ≡ 12 ⌝ }
+    ensures { λ r. ⌜ r ≡ namesLevel (now (call .entry)) ⌝ }
+{
+    let a = words::nat_at(call, 1);
+    words::is_natural_at(call, 1) & all_zero_from(call, 2) & is_level(a)
+}
+
+// ---- the kinds of calls
+
+// Kind 1: insert.
+fn read_insert(schema: &[u8], call: &[i64]) -> Request
+    requires { ⌜ TwelveWords (now schema) (now call) ⌝ }
+    ensures { λ r. ⌜ callOf r (now (call .entry)) ≡ judged (schemaOf (now (schema .entry))) (parsed 1 (now (call .entry))) ⌝ }
+{
+    if !gives_row(schema, call) {
+        return Request::Malformed;
+    }
+    Request::Insert(words::nat_at(call, 1), words::nat_at(call, 2))
+}
+
+// Kind 2: update.
+fn read_update(schema: &[u8], call: &[i64]) -> Request
+    requires { ⌜ TwelveWords (now schema) (now call) ⌝ }
+    ensures { λ r. ⌜ callOf r (now (call .entry)) ≡ judged (schemaOf (now (schema .entry))) (parsed 2 (now (call .entry))) ⌝ }
+{
+    if !gives_row(schema, call) {
+        return Request::Malformed;
+    }
+    Request::Update(words::nat_at(call, 1), words::nat_at(call, 2))
+}
+
+// Kind 3: delete.
+fn read_delete(schema: &[u8], call: &[i64]) -> Request
+    requires { ⌜ TwelveWords (now schema) (now call) ⌝ }
+    ensures { λ r. ⌜ callOf r (now (call .entry)) ≡ judged (schemaOf (now (schema .entry))) (parsed 3 (now (call .entry))) ⌝ }
+{
+    if !(names_row(schema, call) & all_zero_from(call, 3)) {
+        return Request::Malformed;
+    }
+    Request::Delete(words::nat_at(call, 1), words::nat_at(call, 2))
+}
+
+// Kind 6: release.
+fn read_release(call: &[i64]) -> Request
+    requires { ⌜ length (now call) ≡ 12 ⌝ }
+    ensures { λ r. ⌜ callOf r (now (call .entry)) ≡ formedIf (namesLevel (now (call .entry))) (release (natOf (getD (now (call .entry)) 1 (pos 0)))) ⌝ }
+{
+    if !names_level(call) {
+        return Request::Malformed;
+    }
+    Request::Release(words::nat_at(call, 1))
+}
+
+// Kind 7: rollback to a level.
+fn read_rollback_to(call: &[i64]) -> Request
+    requires { ⌜ length (now call) ≡ 12 ⌝ }
+    ensures { λ r. ⌜ callOf r (now (call .entry)) ≡ formedIf (namesLevel (now (call .entry))) (rollbackTo (natOf (getD (now (call .entry)) 1 (pos 0)))) ⌝ }
+{
+    if !names_level(call) {
+        return Request::Malformed;
+    }
+    Request::RollbackTo(words::nat_at(call, 1))
+}
+
+// Kinds 4, 5, 8 and 9: the words past the kind are 0.
+fn read_bare(call: &[i64], request: Request) -> Request
+    ensures { λ r. ⌜ callOf r (now (call .entry)) ≡ formedIf (allZero (drop 1 (now (call .entry)))) (callOf request (now (call .entry))) ⌝ }
+{
+    if !all_zero_from(call, 1) {
+        return Request::Malformed;
+    }
+    request
+}
+
+// A call of a given kind; one that is none of nine is refused.
+fn read_kind(schema: &[u8], call: &[i64], kind: usize) -> Request
+    requires { ⌜ TwelveWords (now schema) (now call) ⌝ }
+    ensures { λ r. ⌜ callOf r (now (call .entry)) ≡ judged (schemaOf (now (schema .entry))) (parsed kind (now (call .entry))) ⌝ }
+{
+    match kind {
+        1 => read_insert(schema, call),
+        2 => read_update(schema, call),
+        3 => read_delete(schema, call),
+        4 => read_bare(call, Request::Begin),
+        5 => read_bare(call, Request::Savepoint),
+        6 => read_release(call),
+        7 => read_rollback_to(call),
+        8 => read_bare(call, Request::Rollback),
+        9 => read_bare(call, Request::Commit),
+        _ => Request::Malformed,
+    }
+}
+
+// What a call asks for; `Malformed` where refusal 4 refuses it.
+pub fn read_call(schema: &[u8], call: &[i64]) -> Request
+    requires { ⌜ checkSchema (now schema) ≡ SchemaAnswer.Accepted ⌝ }
+    ensures { λ r. ⌜ callOf r (now (call .entry)) ≡ judged (schemaOf (now (schema .entry))) (parse (now (call .entry))) ⌝ }
+{
+    if call.len() != 12 {
+        return Request::Malformed;
+    }
+    if !words::is_natural_at(call, 0) {
+        return Request::Malformed;
+    }
+    let kind = words::nat_at(call, 0);
+    read_kind(schema, call, kind)
+}

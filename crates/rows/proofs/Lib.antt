@@ -1,0 +1,5 @@
+pub mod CellLaws
+pub mod LoopLaws
+pub mod MaskLaws
+pub mod TableLaws
+pub mod OrphanLaws

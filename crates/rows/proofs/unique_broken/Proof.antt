@@ -1,0 +1,97 @@
+use mathlib.Core.Path.{_≡_, sym, ap, _∙_}
+use mathlib.Core.List.{List, []}
+use Prim.Native.Nat.{_-_, _≤_}
+use native.Mathlib.Omega.{arith}
+use borrow.Author.Needs.{needs}
+use lib.ListN.{getD, drop}
+use Rattle.schema.specs.Records.{tableOf}
+use Rattle.schema.specs.Fields.{schemaOf}
+use Rattle.rules.specs.Lists.{any}
+use Rattle.rules.specs.Rows.{Row}
+use Rattle.rules.specs.Change.{uniqueBroken}
+use Rattle.bridge.specs.Fit.{workOf}
+use Rattle.rows.specs.Standing.{rowsIn}
+use Rattle.rows.specs.KeyColumns.{maskBroken}
+use Rattle.rows.proofs.LoopLaws.{any-none, any-hit, any-miss}
+use Rattle.rows.proofs.MaskLaws.{unique-inside, masks-four, unique-masks}
+use Rattle.rows.proofs.TableLaws.{rows-are, standing}
+use Rattle.rows.proofs.unique_broken.Statement.{statement}
+use Rattle.rows.proofs.unique_broken.Tie as tie
+
+abbrev Inv-loop : tie.InvT-loop
+Inv-loop schema area t r image table u₀ u =
+    (u ≤ 4)
+    × (uniqueBroken (tableOf (schemaOf schema) t) r image (getD (workOf (schemaOf schema) area .tabs) t [])
+    ≡ any (maskBroken r image (rowsIn area table)) (drop u (tableOf (schemaOf schema) t .uniques)))
+
+abbrev μ-loop : tie.MeasureT-loop
+μ-loop schema area t r image table u₀ u = 4 - u
+
+rows-of-requires : tie.Need-rows-of-requires Inv-loop μ-loop
+rows-of-requires c κs = search needs
+
+loop-holds : tie.Need-loop-holds Inv-loop μ-loop
+loop-holds c =
+    let s = c .before .before in
+    let T = tableOf (schemaOf (s .args .schema .now)) (s .args .t) in
+    let e = rows-are (s .args .schema .now) (s .args .area .now) (s .pre .0) (s .args .t) (s .pre .1) (c .rows-of .result) (c .rows-of .ensures) in (
+      search needs,
+      unique-masks T _ _ _
+          ∙ ap (λ (l : List Row). any (maskBroken (s .args .r) (s .args .image) l) (drop 0 (T .uniques))) (sym e),
+    )
+
+unique-mask-requires : tie.Need-unique-mask-requires Inv-loop μ-loop
+unique-mask-requires c κs = search needs
+
+mask-broken-requires : tie.Need-mask-broken-requires Inv-loop μ-loop
+mask-broken-requires c κs =
+    let s = c .before .before .before .before .before in
+    let i = unique-inside (s .args .schema .now) (s .pre .0 .accepted) (s .args .t) (s .pre .1) (c .before .before .loop .u) (c .before .loop-test .taken) in (
+      standing (s .args .schema .now) (s .args .area .now) (s .pre .0) (s .args .t) (s .pre .1) (c .before .before .before .rows-of .result) (c .before .before .before .rows-of .ensures),
+      rw (c .before .before .before .rows-of .ensures .width-is, c .unique-mask .ensures .0) i,
+    )
+
+returns : tie.Need-returns Inv-loop μ-loop
+returns c =
+    let s = c .before .before .before .before .before .before .before in
+    let l = c .before .before .before .before .loop in
+    let f = masks-four (s .args .schema .now) (s .pre .0 .accepted) (s .args .t) (s .pre .1) in
+    let h = sym (c .before .mask-broken .ensures) ∙ c .if1 .taken in
+    sym (l .inv .1 ∙ any-hit _ _ (l .u) (omega arith) 0 _ (c .before .before .unique-mask .ensures .0) h)
+
+add-u : tie.Need-add-u Inv-loop μ-loop
+add-u c = search needs
+
+loop-less : tie.Need-loop-less Inv-loop μ-loop
+loop-less c = search needs
+
+loop-again : tie.Need-loop-again Inv-loop μ-loop
+loop-again c =
+    let s = c .before .before .before .before .before .before .before in
+    let l = c .before .before .before .before .loop in
+    let f = masks-four (s .args .schema .now) (s .pre .0 .accepted) (s .args .t) (s .pre .1) in
+    let h = sym (c .before .mask-broken .ensures) ∙ c .if1 .left in
+    (search needs, l .inv .1 ∙ any-miss _ _ (l .u) (omega arith) 0 _ (c .before .before .unique-mask .ensures .0) h)
+
+returns-2 : tie.Need-returns-2 Inv-loop μ-loop
+returns-2 c =
+    let s = c .before .before .before .before in
+    let l = c .before .loop in
+    let f = masks-four (s .args .schema .now) (s .pre .0 .accepted) (s .args .t) (s .pre .1) in
+    sym (l .inv .1 ∙ any-none _ _ (l .u) (omega arith))
+
+pub unique-broken-spec : {M : Type 1} → statement M
+unique-broken-spec =
+    tie.close
+    (tie.spec
+    Inv-loop
+    μ-loop
+    rows-of-requires
+    loop-holds
+    unique-mask-requires
+    mask-broken-requires
+    returns
+    add-u
+    loop-less
+    loop-again
+    returns-2)

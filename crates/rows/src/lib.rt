@@ -1,0 +1,527 @@
+// Rows read by their words: keys compared, NOT NULL, unique, orphans.
+ghost use mathlib.Core.Path.{_≡_};
+ghost use mathlib.Core.Bool.{true, false, not, _&&_};
+ghost use mathlib.Core.List.{[]};
+ghost use Prim.Native.Nat.{suc, _+_, _≤_, _<_};
+ghost use lib.Dec.{eqb};
+ghost use lib.ListN.{length, getD, take};
+ghost use Rattle.schema.specs.Bounds.{Columns};
+ghost use Rattle.schema.specs.Bytes.{bit};
+ghost use Rattle.schema.specs.Records.{tableOf, keyOf};
+ghost use Rattle.schema.specs.Fields.{schemaOf};
+ghost use Rattle.schema.specs.Check.{checkSchema};
+ghost use Rattle.rules.specs.Lists;
+ghost use Rattle.rules.specs.Rows;
+ghost use Rattle.rules.specs.Keys;
+ghost use Rattle.rules.specs.Change;
+ghost use Rattle.bridge.specs.Fit.{workOf};
+ghost use Rattle.bridge.specs.Ready.{Ready, rowIn};
+ghost use Rattle.rows.specs.Standing.{RowAt, Standing, rowsIn, RowsOf, PlacedAt};
+ghost use Rattle.rows.specs.KeyColumns.{KeyColumns, keyBy, MaskWithin, maskBroken};
+use schema::SchemaAnswer;
+
+// The rows of a table: their first word, the words of a row, how many there are.
+pub struct TableRows {
+    pub start: usize,
+    pub width: usize,
+    pub count: usize,
+}
+
+// ---- rows and keys
+
+// Whether a state is that of a live row.
+pub fn is_live(state: usize) -> bool
+    ensures { λ x. ⌜ x ≡ Rows.liveState state ⌝ }
+{
+    256 <= state && state < 512
+}
+
+// Whether an image is that of a live row.
+pub fn image_live(image: [i64; 9]) -> bool
+    ensures { λ x. ⌜ x ≡ Rows.live image ⌝ }
+{
+    is_live(words::nat_of(image[0]))
+}
+
+// Whether column c of the row at p and column d of an image are equal.
+pub fn same_cell(area: &[i64], p: usize, w: usize, other: &[i64; 9], c: usize, d: usize) -> bool
+    requires { ⌜ RowAt (now area) p w × ((suc c < w) × (suc d < 9)) ⌝ }
+    ensures { λ x. ⌜ x ≡ Keys.sameCell (rowIn (now (area .entry)) p w) (now (other .entry)) c d ⌝ }
+{
+    let v = area[p + c + 1];
+    let u = other[d + 1];
+    if !words::same_word(v, u) {
+        return false;
+    }
+    let s = words::nat_at(area, p);
+    if numbers::bit_of(c, s) {
+        return false;
+    }
+    let o = words::nat_of(other[0]);
+    !numbers::bit_of(d, o)
+}
+
+// Whether the key of the row at p, in n columns, and that of an image are equal.
+pub fn same_key(
+    area: &[i64],
+    p: usize,
+    w: usize,
+    other: &[i64; 9],
+    n: usize,
+    cs: &[usize; 8],
+    ds: &[usize; 8],
+) -> bool
+    requires { ⌜ RowAt (now area) p w × (Columns w n (now cs) × Columns 9 n (now ds)) ⌝ }
+    ensures { λ x. ⌜ x ≡ Keys.sameKey (take n (now (cs .entry))) (take n (now (ds .entry))) (rowIn (now (area .entry)) p w) (now (other .entry)) ⌝ }
+{
+    let mut i = 0;
+    while i < n {
+        let c = cs[i];
+        let d = ds[i];
+        if !same_cell(area, p, w, other, c, d) {
+            return false;
+        }
+        i += 1;
+    }
+    true
+}
+
+// Whether the first of n columns tells that the key of the row at p is not that of an image.
+fn first_differs(
+    area: &[i64],
+    p: usize,
+    w: usize,
+    other: &[i64; 9],
+    n: usize,
+    cs: &[usize; 8],
+    ds: &[usize; 8],
+) -> bool
+    requires { ⌜ RowAt (now area) p w × (Columns w n (now cs) × Columns 9 n (now ds)) ⌝ }
+    ensures { λ x. ⌜ (x ≡ true → Keys.sameKey (take n (now (cs .entry))) (take n (now (ds .entry))) (rowIn (now (area .entry)) p w) (now (other .entry)) ≡ false) ⌝ }
+{
+    if n == 0 {
+        return false;
+    }
+    let c = cs[0];
+    let d = ds[0];
+    let v = area[p + c + 1];
+    let u = other[d + 1];
+    !words::same_word(v, u)
+}
+
+// Whether the row at p is live and has an image's key.
+pub fn has_key(
+    area: &[i64],
+    p: usize,
+    w: usize,
+    other: &[i64; 9],
+    n: usize,
+    cs: &[usize; 8],
+    ds: &[usize; 8],
+) -> bool
+    requires { ⌜ RowAt (now area) p w × (Columns w n (now cs) × Columns 9 n (now ds)) ⌝ }
+    ensures { λ x. ⌜ x ≡ Rows.live (rowIn (now (area .entry)) p w) && Keys.sameKey (take n (now (cs .entry))) (take n (now (ds .entry))) (rowIn (now (area .entry)) p w) (now (other .entry)) ⌝ }
+{
+    if first_differs(area, p, w, other, n, cs, ds) {
+        return false;
+    }
+    if !same_key(area, p, w, other, n, cs, ds) {
+        return false;
+    }
+    is_live(words::nat_at(area, p))
+}
+
+// Whether an image is live and has another's key.
+pub fn image_has_key(
+    image: [i64; 9],
+    other: [i64; 9],
+    n: usize,
+    cs: [usize; 8],
+    ds: [usize; 8],
+) -> bool
+    requires { ⌜ Columns 9 n cs × Columns 9 n ds ⌝ }
+    ensures { λ x. ⌜ x ≡ Rows.live image && Keys.sameKey (take n cs) (take n ds) image other ⌝ }
+{
+    has_key(&image[0..9], 0, 9, &other, n, &cs, &ds)
+}
+
+// Whether an image is live and has no NULL in its key.
+pub fn image_full_key(image: [i64; 9], n: usize, cs: [usize; 8]) -> bool
+    requires { ⌜ Columns 9 n cs ⌝ }
+    ensures { λ x. ⌜ x ≡ Keys.fullKey (take n cs) image ⌝ }
+{
+    if !image_live(image) {
+        return false;
+    }
+    image_has_key(image, image, n, cs, cs)
+}
+
+// ---- NOT NULL
+
+// Whether column c must not be NULL, by the mask, and is NULL, by the state.
+fn null_broken(mask: usize, state: usize, c: usize) -> bool
+    requires { ⌜ c < 8 ⌝ }
+    ensures { λ x. ⌜ x ≡ bit c mask && bit c state ⌝ }
+{
+    numbers::bit_of(c, mask) && numbers::bit_of(c, state)
+}
+
+// Whether an image has NULL in a NOT NULL column of table t.
+pub fn not_null_broken(schema: &[u8], t: usize, image: [i64; 9]) -> bool
+    requires { ⌜ (checkSchema (now schema) ≡ SchemaAnswer.Accepted) × (t < length (schemaOf (now schema) .tables)) ⌝ }
+    ensures { λ x. ⌜ x ≡ Change.notNullBroken (tableOf (schemaOf (now (schema .entry))) t) image ⌝ }
+{
+    let mask = fields::not_null(schema, t);
+    let n = fields::columns(schema, t);
+    let state = words::nat_of(image[0]);
+    let mut c = 0;
+    while c < n {
+        if null_broken(mask, state, c) {
+            return true;
+        }
+        c += 1;
+    }
+    false
+}
+
+// ---- a table's rows
+
+// Where the rows of table t stand.
+pub fn rows_of(schema: &[u8], t: usize) -> TableRows
+    requires { ⌜ (checkSchema (now schema) ≡ SchemaAnswer.Accepted) × (t < length (schemaOf (now schema) .tables)) ⌝ }
+    ensures { λ x. ⌜ RowsOf (now (schema .entry)) t x ⌝ }
+{
+    let start = fields::start_of(schema, t);
+    let width = fields::columns(schema, t) + 1;
+    let count = fields::rows(schema, t);
+    TableRows {
+        start: start,
+        width: width,
+        count: count,
+    }
+}
+
+// ---- unique
+
+// Bit i of a mask as a number.
+fn bit_number(i: usize, m: usize) -> usize
+    requires { ⌜ i < 64 ⌝ }
+    ensures { λ x. ⌜ (x ≡ Lists.one (bit i m)) × (x ≤ 1) ⌝ }
+{
+    if numbers::bit_of(i, m) {
+        return 1;
+    }
+    0
+}
+
+// How many columns a mask has.
+pub fn mask_count(m: usize) -> usize
+    ensures { λ x. ⌜ (x ≡ length (Keys.maskColumns m)) × (x ≤ 8) ⌝ }
+{
+    let mut n = 0;
+    let mut i = 0;
+    while i < 8 {
+        n += bit_number(i, m);
+        i += 1;
+    }
+    n
+}
+
+// The columns of a mask, at the start of an array.
+pub fn mask_columns(m: usize) -> [usize; 8]
+    ensures { λ x. ⌜ take (length (Keys.maskColumns m)) x ≡ Keys.maskColumns m ⌝ }
+{
+    let mut list = [0usize; 8];
+    let mut n = 0;
+    let mut i = 0;
+    while i < 8 {
+        list[n] = i;
+        n += bit_number(i, m);
+        i += 1;
+    }
+    list
+}
+
+// Whether row j of a table, at p, is not row r, is live and has the image's key.
+fn row_clashes(
+    area: &[i64],
+    p: usize,
+    w: usize,
+    image: &[i64; 9],
+    n: usize,
+    cs: &[usize; 8],
+    j: usize,
+    r: usize,
+) -> bool
+    requires { ⌜ RowAt (now area) p w × Columns w n (now cs) ⌝ }
+    ensures { λ x. ⌜ x ≡ not (eqb j r) && (Rows.live (rowIn (now (area .entry)) p w) && Keys.sameKey (take n (now (cs .entry))) (take n (now (cs .entry))) (rowIn (now (area .entry)) p w) (now (image .entry))) ⌝ }
+{
+    if j == r {
+        return false;
+    }
+    has_key(area, p, w, image, n, cs, cs)
+}
+
+// Whether a live row other than row r has the image's key.
+fn other_has_key(
+    area: &[i64],
+    table: TableRows,
+    r: usize,
+    image: &[i64; 9],
+    n: usize,
+    cs: &[usize; 8],
+) -> bool
+    requires { ⌜ Standing (now area) table × Columns (table .width) n (now cs) ⌝ }
+    ensures { λ x. ⌜ x ≡ Change.twice (take n (now (cs .entry))) r (now (image .entry)) 0 (rowsIn (now (area .entry)) table) ⌝ }
+{
+    let start = table.start;
+    let w = table.width;
+    let rows = table.count;
+    let mut j = 0;
+    while j < rows {
+        if row_clashes(area, start + j * w, w, image, n, cs, j, r) {
+            return true;
+        }
+        j += 1;
+    }
+    false
+}
+
+// Whether an image for row r breaks the unique key of a mask.
+fn mask_broken(area: &[i64], table: TableRows, r: usize, image: [i64; 9], m: usize) -> bool
+    requires { ⌜ Standing (now area) table × MaskWithin (table .width) m ⌝ }
+    ensures { λ x. ⌜ x ≡ maskBroken r image (rowsIn (now (area .entry)) table) m ⌝ }
+{
+    if m == 0 {
+        return false;
+    }
+    let n = mask_count(m);
+    let cs = mask_columns(m);
+    if !image_full_key(image, n, cs) {
+        return false;
+    }
+    other_has_key(area, table, r, &image, n, &cs)
+}
+
+// Whether an image for row r breaks a unique key of table t.
+pub fn unique_broken(schema: &[u8], area: &[i64], t: usize, r: usize, image: [i64; 9]) -> bool
+    requires { ⌜ Ready (now schema) (now area) × (t < length (schemaOf (now schema) .tables)) ⌝ }
+    ensures { λ x. ⌜ x ≡ Change.uniqueBroken (tableOf (schemaOf (now (schema .entry))) t) r image (getD (workOf (schemaOf (now (schema .entry))) (now (area .entry)) .tabs) t []) ⌝ }
+{
+    let table = rows_of(schema, t);
+    let mut u = 0;
+    while u < 4 {
+        let m = fields::unique_mask(schema, t, u);
+        if mask_broken(area, table, r, image, m) {
+            return true;
+        }
+        u += 1;
+    }
+    false
+}
+
+// ---- what an action looks at
+
+// Whether an old parent key without NULL is not the new one.
+fn key_changes(old: [i64; 9], new: [i64; 9], n: usize, ps: [usize; 8]) -> bool
+    requires { ⌜ Columns 9 n ps ⌝ }
+    ensures { λ x. ⌜ x ≡ Keys.fullKey (take n ps) old && not (Rows.live new && Keys.sameKey (take n ps) (take n ps) new old) ⌝ }
+{
+    if !image_full_key(old, n, ps) {
+        return false;
+    }
+    !image_has_key(new, old, n, ps, ps)
+}
+
+// Whether actions of foreign key k follow the change of a row of table t from `old` to `new`.
+pub fn fires(schema: &[u8], t: usize, old: [i64; 9], new: [i64; 9], k: usize) -> bool
+    requires { ⌜ (checkSchema (now schema) ≡ SchemaAnswer.Accepted) × (k < length (schemaOf (now schema) .keys)) ⌝ }
+    ensures { λ x. ⌜ x ≡ Keys.fires new t old (keyOf (schemaOf (now (schema .entry))) k) ⌝ }
+{
+    if fields::parent(schema, k) != t {
+        return false;
+    }
+    let n = fields::width(schema, k);
+    let ps = fields::parent_columns(schema, k);
+    key_changes(old, new, n, ps)
+}
+
+// Whether row j of foreign key k's child table, at p, is live and has the old parent key.
+pub fn takes(
+    schema: &[u8],
+    area: &[i64],
+    k: usize,
+    j: usize,
+    p: usize,
+    w: usize,
+    old: &[i64; 9],
+    n: usize,
+    cs: &[usize; 8],
+    ps: &[usize; 8],
+) -> bool
+    requires { ⌜ PlacedAt (now schema) (now area) (keyOf (schemaOf (now schema)) k .child) j p w × KeyColumns (now schema) k n (now cs) (now ps) ⌝ }
+    ensures { λ x. ⌜ x ≡ Keys.takes (keyOf (schemaOf (now (schema .entry))) k) (now (old .entry)) (Rows.rowAt (keyOf (schemaOf (now (schema .entry))) k .child) j (workOf (schemaOf (now (schema .entry))) (now (area .entry)) .tabs)) ⌝ }
+{
+    has_key(area, p, w, old, n, cs, ps)
+}
+
+// ---- orphans
+
+// Whether one of the parent rows is live and has the key of a child row's image.
+fn any_serves(
+    area: &[i64],
+    parents: TableRows,
+    image: &[i64; 9],
+    n: usize,
+    cs: &[usize; 8],
+    ps: &[usize; 8],
+) -> bool
+    requires { ⌜ Standing (now area) parents × (Columns 9 n (now cs) × Columns (parents .width) n (now ps)) ⌝ }
+    ensures { λ x. ⌜ x ≡ Lists.any (Keys.serves (keyBy (take n (now (cs .entry))) (take n (now (ps .entry)))) (now (image .entry))) (rowsIn (now (area .entry)) parents) ⌝ }
+{
+    let start = parents.start;
+    let w = parents.width;
+    let rows = parents.count;
+    let mut j = 0;
+    while j < rows {
+        if has_key(area, start + j * w, w, image, n, ps, cs) {
+            return true;
+        }
+        j += 1;
+    }
+    false
+}
+
+// Whether a live parent row of foreign key k has the key of a child row's image.
+pub fn is_served(
+    schema: &[u8],
+    area: &[i64],
+    k: usize,
+    image: [i64; 9],
+    n: usize,
+    cs: [usize; 8],
+    ps: [usize; 8],
+) -> bool
+    requires { ⌜ Ready (now schema) (now area) × KeyColumns (now schema) k n cs ps ⌝ }
+    ensures { λ x. ⌜ x ≡ Lists.any (Keys.serves (keyOf (schemaOf (now (schema .entry))) k) image) (getD (workOf (schemaOf (now (schema .entry))) (now (area .entry)) .tabs) (keyOf (schemaOf (now (schema .entry))) k .parent) []) ⌝ }
+{
+    let t = fields::parent(schema, k);
+    let parents = rows_of(schema, t);
+    any_serves(area, parents, &image, n, &cs, &ps)
+}
+
+// Whether the image of a child row of foreign key k is that of an orphan.
+pub fn is_orphan_image(
+    schema: &[u8],
+    area: &[i64],
+    k: usize,
+    image: [i64; 9],
+    n: usize,
+    cs: [usize; 8],
+    ps: [usize; 8],
+) -> bool
+    requires { ⌜ Ready (now schema) (now area) × KeyColumns (now schema) k n cs ps ⌝ }
+    ensures { λ x. ⌜ x ≡ Keys.orphan (keyOf (schemaOf (now (schema .entry))) k) (getD (workOf (schemaOf (now (schema .entry))) (now (area .entry)) .tabs) (keyOf (schemaOf (now (schema .entry))) k .parent) []) image ⌝ }
+{
+    if !image_full_key(image, n, cs) {
+        return false;
+    }
+    !is_served(schema, area, k, image, n, cs, ps)
+}
+
+// Whether row j of foreign key k's child table, at p, is an orphan.
+pub fn is_orphan_row(
+    schema: &[u8],
+    area: &[i64],
+    k: usize,
+    j: usize,
+    p: usize,
+    w: usize,
+    n: usize,
+    cs: [usize; 8],
+    ps: [usize; 8],
+) -> bool
+    requires { ⌜ PlacedAt (now schema) (now area) (keyOf (schemaOf (now schema)) k .child) j p w × KeyColumns (now schema) k n cs ps ⌝ }
+    ensures { λ x. ⌜ x ≡ Keys.orphan (keyOf (schemaOf (now (schema .entry))) k) (getD (workOf (schemaOf (now (schema .entry))) (now (area .entry)) .tabs) (keyOf (schemaOf (now (schema .entry))) k .parent) []) (Rows.rowAt (keyOf (schemaOf (now (schema .entry))) k .child) j (workOf (schemaOf (now (schema .entry))) (now (area .entry)) .tabs)) ⌝ }
+{
+    let image = words::image_at(area, p, w);
+    is_orphan_image(schema, area, k, image, n, cs, ps)
+}
+
+// 1 where the child row at p is an orphan, else 0.
+fn orphan_number(
+    area: &[i64],
+    p: usize,
+    w: usize,
+    parents: TableRows,
+    n: usize,
+    cs: &[usize; 8],
+    ps: &[usize; 8],
+) -> usize
+    requires { ⌜ RowAt (now area) p w × (Standing (now area) parents × (Columns 9 n (now cs) × Columns (parents .width) n (now ps))) ⌝ }
+    ensures { λ x. ⌜ (x ≡ Lists.one (Keys.orphan (keyBy (take n (now (cs .entry))) (take n (now (ps .entry)))) (rowsIn (now (area .entry)) parents) (rowIn (now (area .entry)) p w))) × (x ≤ 1) ⌝ }
+{
+    if !is_live(words::nat_at(area, p)) {
+        return 0;
+    }
+    let image = words::image_at(area, p, w);
+    if !image_full_key(image, n, *cs) {
+        return 0;
+    }
+    if any_serves(area, parents, &image, n, cs, ps) {
+        return 0;
+    }
+    1
+}
+
+// The number of orphans among the child rows.
+fn orphans_among(
+    area: &[i64],
+    children: TableRows,
+    parents: TableRows,
+    n: usize,
+    cs: &[usize; 8],
+    ps: &[usize; 8],
+) -> usize
+    requires { ⌜ (Standing (now area) children × Standing (now area) parents) × (Columns 9 n (now cs) × Columns (parents .width) n (now ps)) ⌝ }
+    ensures { λ x. ⌜ (x ≡ Lists.count (Keys.orphan (keyBy (take n (now (cs .entry))) (take n (now (ps .entry)))) (rowsIn (now (area .entry)) parents)) (rowsIn (now (area .entry)) children)) × (x ≤ 1024) ⌝ }
+{
+    let start = children.start;
+    let w = children.width;
+    let rows = children.count;
+    let mut m = 0;
+    let mut j = 0;
+    while j < rows {
+        m += orphan_number(area, start + j * w, w, parents, n, cs, ps);
+        j += 1;
+    }
+    m
+}
+
+// The orphans of foreign key k, its columns given.
+pub fn orphans_of(
+    schema: &[u8],
+    area: &[i64],
+    k: usize,
+    n: usize,
+    cs: [usize; 8],
+    ps: [usize; 8],
+) -> usize
+    requires { ⌜ Ready (now schema) (now area) × KeyColumns (now schema) k n cs ps ⌝ }
+    ensures { λ x. ⌜ (x ≡ Keys.orphans (workOf (schemaOf (now (schema .entry))) (now (area .entry)) .tabs) (keyOf (schemaOf (now (schema .entry))) k)) × (x ≤ 1024) ⌝ }
+{
+    let children = rows_of(schema, fields::child(schema, k));
+    let parents = rows_of(schema, fields::parent(schema, k));
+    orphans_among(area, children, parents, n, &cs, &ps)
+}
+
+// The orphans of foreign key k, counted from the rows.
+pub fn count_orphans(schema: &[u8], area: &[i64], k: usize) -> usize
+    requires { ⌜ Ready (now schema) (now area) × (k < length (schemaOf (now schema) .keys)) ⌝ }
+    ensures { λ x. ⌜ (x ≡ Keys.orphans (workOf (schemaOf (now (schema .entry))) (now (area .entry)) .tabs) (keyOf (schemaOf (now (schema .entry))) k)) × (x ≤ 1024) ⌝ }
+{
+    let n = fields::width(schema, k);
+    let cs = fields::child_columns(schema, k);
+    let ps = fields::parent_columns(schema, k);
+    orphans_of(schema, area, k, n, cs, ps)
+}
