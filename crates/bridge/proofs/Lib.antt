@@ -2,6 +2,7 @@ pub mod Tests
 pub mod Shapes
 pub mod Books
 pub mod Counts
+pub mod CountBounds
 pub mod Undo
 pub mod Views
 pub mod Offsets

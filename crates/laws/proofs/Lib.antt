@@ -1,6 +1,5 @@
 pub mod Back
 pub mod Good
-pub mod Fits
 pub mod Outcome
 pub mod Formed
 pub mod Struck

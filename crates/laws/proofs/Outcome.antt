@@ -10,12 +10,12 @@ use borrow.Author.Tests.{leb-true, ne-eqb}
 use lib.Dec.{T, leb, eqb, leb→le, eqb→eq}
 use lib.IntN.{ℤ, pos}
 use lib.ListN.{length, drop, length-drop, drop-of-length-le}
+use Rattle.bridge.proofs.CountBounds.{counts-in-range}
 use Rattle.bridge.proofs.Counts.{kept-counted}
 use Rattle.bridge.proofs.Tests.{holds, fails}
 use Rattle.bridge.proofs.Undo.{Undoes, Fine, went, stopped, ofChange, fine-change, shaped-after}
 use Rattle.laws.proofs.Back.{Good, moved, unused, length-zero}
 use Rattle.laws.proofs.Good.{cleared-is, good-alone, good-undamaged}
-use Rattle.laws.proofs.Fits.{counts-in-range}
 use Rattle.laws.specs.Regular.{regular, regularAnswer}
 use Rattle.rules.specs.Book.{Level, Work, Book, cleared, close, back, ended, abort, push}
 use Rattle.rules.specs.Calls.{Call, malformed, insert, update, delete, begin, savepoint, release, rollbackTo, rollback, commit, inTable, parse, allowed}

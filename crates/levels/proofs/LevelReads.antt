@@ -4,7 +4,8 @@ use mathlib.Core.Path.{_≡_, refl, sym, _∙_, ap, ap₂}
 use mathlib.Core.List.{List, [], _∷_, map, reverse}
 use Prim.Native.Nat.{ℕ, zero, suc, _+_, _-_, _*_, _≤_, _<_}
 use native.Mathlib.Omega.{arith}
-use lib.Dec.{leb→le}
+use borrow.Author.Tests.{le-leb}
+use lib.Dec.{leb, leb→le}
 use lib.IntN.{ℤ}
 use lib.ListN.{length, getD, take, drop, length-map, length-reverse, length-take, List·getD-map}
 use lib.Seq.{drop-drop, drop-cons, getD-take}
@@ -14,6 +15,7 @@ use Rattle.schema.proofs.RangeLaws.{every-at}
 use Rattle.rules.specs.Lists.{𝟘, chunks}
 use Rattle.rules.specs.Values.{natOf}
 use Rattle.rules.specs.Book.{Level, Book, withWork, undoTo, close, back, backTo, firstKept}
+use Rattle.rules.specs.State.{inTransaction}
 use Rattle.rules.specs.Area.{view, levelOf, levelPart, legible}
 use Rattle.bridge.specs.Fit.{Fit}
 use Rattle.bridge.proofs.Tests.{holds}
@@ -24,6 +26,12 @@ use Rattle.levels.proofs.Stacks.{reverse-take, drop-reverse}
 
 abbrev noLevel : Level
 noLevel = record { base = 0; kept = [] }
+
+-- a transaction is open where a level is
+pub inside-is : (ls : List Level) → inTransaction ls ≡ leb 1 (length ls)
+unfolding inTransaction
+inside-is [] = refl
+inside-is (l ∷ ls) = sym (le-leb 1 (suc (length ls)) (omega arith))
 
 -- a rollback to a level: its kept numbers, the levels above it closed, the journal undone to its use
 pub back-parts : (k : ℕ) (b : Book) (l : Level) (ls : List Level) → drop k (b .levels) ≡ l ∷ ls → back k b ≡ withKept (l .kept) (close k (withWork (undoTo (l .base) (b .work)) b))

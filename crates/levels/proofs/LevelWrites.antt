@@ -23,7 +23,7 @@ use Rattle.bridge.proofs.Views.{splice, splice-right, splice-left, splice-whole
 use Rattle.bridge.proofs.JournalWords.{flat-sized, sized-at}
 use Rattle.bridge.proofs.RoundTrip.{Formed, of-size, all-zeros, levelList, levels-sized, levels-count, levels-length, flat-zeros}
 use Rattle.bridge.proofs.RowWords.{formed-fit, sets-splice}
-use Rattle.bridge.proofs.HoldLaws.{holds-words}
+use Rattle.bridge.proofs.HoldLaws.{holds-words, then-step}
 use Rattle.bridge.proofs.ClearWords.{flat-append}
 use Rattle.levels.specs.Parts.{withKept, withOpener}
 use Rattle.levels.proofs.Stacks.{flat-take, flat-drop, drop-reverse, stack-push}
@@ -246,3 +246,7 @@ module _ {s : Schema} {a : List ℤ} (f : Fit s a) where
         ∙ sym (words-levels b′ (close n b′) m zs (formed .kept-length) refl refl refl (omega (arith, flat-297)) close-flat
         ∙ ap₂ (λ z k. set (splice (36 + m) zs z) 0 (pos k)) all-words q
         ∙ ap (λ z. set z 0 (pos left)) (sets-splice (36 + m) zs a fits)))
+
+-- the kept numbers replaced, after another step
+pub then-kept : {s : Schema} {a a′ : List ℤ} {b : Book} → Holds s a b → (kept : List ℤ) → length kept ≡ 32 → a′ ≡ sets a 4 kept → Holds s a′ (withKept kept b)
+then-kept h kept l e = then-step (withKept kept) h (kept-put (h .fit) kept l e)

@@ -77,11 +77,11 @@ row-here : (a t r : ℕ) (tabs : Tables) → a ≡ t → rowAt t r tabs ≡ getD
 unfolding rowAt
 row-here a t r tabs e = ap (λ b. getD (getD tabs b []) r []) (sym e)
 
-rows-other : (a t r : ℕ) (y : Row) (tabs : Tables) → a ≢ t → getD (putRow t r y tabs) a [] ≡ getD tabs a []
+pub rows-other : (a t r : ℕ) (y : Row) (tabs : Tables) → a ≢ t → getD (putRow t r y tabs) a [] ≡ getD tabs a []
 unfolding putRow
 rows-other a t r y tabs h = getD-set-other tabs t a (set (getD tabs t []) r y) [] h
 
-other : (a t : ℕ) → eqb a t ≡ false → a ≢ t
+pub other : (a t : ℕ) → eqb a t ≡ false → a ≢ t
 other a t e = λ p. false≢true (sym e ∙ rw p (passes (eqb t t) (eqb-refl t)))
 
 module _ (k : ForeignKey) (t r : ℕ) (y : Row) (tabs : Tables) (h : r < length (getD tabs t [])) where

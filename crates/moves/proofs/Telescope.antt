@@ -28,7 +28,7 @@ plus-length [] b = refl
 plus-length (x ∷ a) [] = refl
 plus-length (x ∷ a) (y ∷ b) = ap suc (plus-length a b)
 
-plus-zeros : (n : ℕ) (a : List ℤ) → plus a (replicate n 𝟘) ≡ a
+pub plus-zeros : (n : ℕ) (a : List ℤ) → plus a (replicate n 𝟘) ≡ a
 unfolding plus
 plus-zeros n [] = refl
 plus-zeros zero (x ∷ a) = refl
@@ -74,24 +74,25 @@ module _ (s : Schema) (few : length (s .keys) ≤ 32) where
   pub tells-less : {a b : Tables} {m : List ℤ} → Tells s a b m → m ≡ less (counts s b) (counts s a)
   tells-less {a} {b} {m} p = sym (less-plus (counts s a) m (p .size ∙ sym (length-counts-32 s few a))) ∙ ap (λ l. less l (counts s a)) (p .told)
 
+-- one number added to both leaves the difference as it is
+pub both-more : (x y z : ℤ) → x +ℤ z -ℤ (y +ℤ z) ≡ x -ℤ y
+both-more x y z = rw (negℤ-+ℤ y z, +ℤ-assoc x z (negℤ y +ℤ negℤ z), +ℤ-comm z (negℤ y +ℤ negℤ z), -ℤ-+ℤ-cancel (negℤ y) z)
+
 -- the counts less the tally stay as they are: so tallies telescope by `∙` alone
 less-plus-both : (a m n : List ℤ) → length m ≡ length a → length n ≡ length a → less (plus a n) (plus m n) ≡ less a m
 unfolding plus less
 less-plus-both [] m n h l = refl
 less-plus-both (x ∷ a) [] n h l = absurd (omega arith)
 less-plus-both (x ∷ a) (y ∷ m) [] h l = absurd (omega arith)
-less-plus-both (x ∷ a) (y ∷ m) (z ∷ n) h l = ap₂ (λ v w. v ∷ w) (both x y z) (less-plus-both a m n (omega arith) (omega arith))
-  where
-    both : (x y z : ℤ) → x +ℤ z -ℤ (y +ℤ z) ≡ x -ℤ y
-    both x y z = rw (negℤ-+ℤ y z, +ℤ-assoc x z (negℤ y +ℤ negℤ z), +ℤ-comm z (negℤ y +ℤ negℤ z), -ℤ-+ℤ-cancel (negℤ y) z)
+less-plus-both (x ∷ a) (y ∷ m) (z ∷ n) h l = ap₂ (λ v w. v ∷ w) (both-more x y z) (less-plus-both a m n (omega arith) (omega arith))
 
-less-zeros : (n : ℕ) (a : List ℤ) → less a (replicate n 𝟘) ≡ a
+pub less-zeros : (n : ℕ) (a : List ℤ) → less a (replicate n 𝟘) ≡ a
 unfolding less
 less-zeros n [] = refl
 less-zeros zero (x ∷ a) = refl
 less-zeros (suc n) (x ∷ a) = ap₂ (λ v w. v ∷ w) (+ℤ-idr x) (less-zeros n a)
 
-less-turn : (a m b : List ℤ) → length m ≡ length a → less a m ≡ b → m ≡ less a b
+pub less-turn : (a m b : List ℤ) → length m ≡ length a → less a m ≡ b → m ≡ less a b
 unfolding less
 less-turn [] [] b h e = refl
 less-turn [] (y ∷ m) b h e = absurd (omega arith)

@@ -30,6 +30,15 @@ abs-neg (negsuc n) = refl
 pub abs-less : (a b : ℤ) → natAbs (a -ℤ b) ≤ natAbs a + natAbs b
 abs-less a b = let h = abs-add a (negℤ b) in omega (arith, abs-neg b)
 
+-- two numbers from 0 to k differ by at most k
+pub abs-between : (m n k : ℕ) → m ≤ k → n ≤ k → natAbs (pos m -ℤ pos n) ≤ k
+abs-between m zero k h l = omega arith
+abs-between m (suc n) k h l = go (ltb m (suc n)) refl
+  where
+    go : (t : Bool) → ltb m (suc n) ≡ t → natAbs (cond t (negsuc (suc n - suc m)) (pos (m - suc n))) ≤ k
+    go true e = let q : m < suc n = ltb-true m (suc n) e in omega arith
+    go false e = omega arith
+
 -- a magnitude below 2 ^ 63 fits
 pub fits-abs : (z : ℤ) → natAbs z < 2 ^ 63 → SFits w64 z
 fits-abs (pos n) h = record { sfits = h }

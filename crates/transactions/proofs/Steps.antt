@@ -12,18 +12,15 @@ use lib.ListN.{length, getD, set, take, drop, replicate, length-drop}
 use lib.Seq.{sets, length-take-le}
 use Rattle.schema.specs.Records.{Schema}
 use Rattle.schema.specs.Fields.{schemaOf}
-use Rattle.schema.specs.Sizes.{areaSize}
 use Rattle.schema.proofs.RangeLaws.{every-at, and-left, and-right}
 use Rattle.schema.proofs.FieldLaws.{room-few}
 use Rattle.schema.proofs.SchemaLaws.{accepted-valid}
 use Rattle.sums.specs.Small.{Small}
-use Rattle.sums.proofs.Magnitudes.{abs-less}
-use Rattle.sums.proofs.SumLaws.{get-less}
 use Rattle.sums.proofs.KeptSmall.{kept-small}
 use Rattle.rules.specs.declared.Answer.the-variants.{Done}
 use Rattle.rules.specs.Lists.{𝟘, sum, less}
 use Rattle.rules.specs.Values.{natOf}
-use Rattle.rules.specs.Book.{Level, Work, Book, withWork, emptied, undoTo, push, close, back, ended, firstKept, abort}
+use Rattle.rules.specs.Book.{Level, Book, withWork, emptied, undoTo, push, close, back, ended, firstKept, abort}
 use Rattle.rules.specs.Statement.{Turn}
 use Rattle.rules.specs.State.{inTransaction, openerFits, levelOpen}
 use Rattle.rules.specs.Step.{openerOf, rolled}
@@ -34,22 +31,15 @@ use Rattle.bridge.proofs.SoundLaws.{parts, level-saved, level-base}
 use Rattle.bridge.proofs.Tests.{holds}
 use Rattle.bridge.proofs.RowWords.{use-is, formed-fit}
 use Rattle.bridge.proofs.UndoWords.{to-length}
-use Rattle.bridge.proofs.HoldLaws.{holds-view}
+use Rattle.bridge.proofs.HoldLaws.{holds-view, then-step}
 use Rattle.levels.specs.Parts.{withKept, withOpener}
-use Rattle.levels.proofs.LevelWrites.{kept-put, opener-put, level-opened, levels-closed}
-use Rattle.levels.proofs.LevelReads.{level-count, levels-few, level-found, first-kept, back-parts}
-use Rattle.transactions.proofs.Turns.{inside-is, ended-parts}
-
-pub area-long : {s : Schema} {a : List ℤ} → Fit s a → 333 ≤ length a
-unfolding areaSize
-area-long f = omega (arith, f .size)
-
--- a step after another
-then-step : {s : Schema} {a a′ : List ℤ} {b : Book} (P : Book → Book) → Holds s a b → Holds s a′ (P (view s a)) → Holds s a′ (P b)
-then-step P h k = record { fit = k .fit; is = k .is ∙ ap P (h .is) }
-
-pub then-kept : {s : Schema} {a a′ : List ℤ} {b : Book} → Holds s a b → (kept : List ℤ) → length kept ≡ 32 → a′ ≡ sets a 4 kept → Holds s a′ (withKept kept b)
-then-kept h kept l e = then-step (withKept kept) h (kept-put (h .fit) kept l e)
+use Rattle.levels.proofs.LevelWrites.{opener-put, level-opened, levels-closed}
+use Rattle.levels.proofs.LevelReads.{inside-is, level-count, levels-few, level-found, first-kept, back-parts}
+use Rattle.transactions.proofs.Turns.{ended-parts}
+pub use Rattle.sums.proofs.KeptSmall.{kept-bound}
+pub use Rattle.bridge.proofs.HoldLaws.{area-long, then-work}
+pub use Rattle.bridge.proofs.LevelWords.{kept-at}
+pub use Rattle.levels.proofs.LevelWrites.{then-kept}
 
 pub then-opener : {s : Schema} {a a′ : List ℤ} {b : Book} → Holds s a b → (o : ℕ) → a′ ≡ set a 1 (pos o) → Holds s a′ (withOpener o b)
 then-opener h o e = then-step (withOpener o) h (opener-put (h .fit) o e)
@@ -60,12 +50,6 @@ then-close {s} {a} h n le e =
     let c : length (view s a .levels) ≡ natOf (getD a 0 𝟘) = level-count (h .fit) in
     let le′ : n ≤ length (view s a .levels) = omega (arith, le, ap (λ (b : Book). length (b .levels)) (h .is)) in
     then-step (close n) h (levels-closed (h .fit) n le′ (e ∙ ap (λ m. set (sets a (36 + (m - n) * 33) (replicate (n * 33) 𝟘)) 0 (pos (m - n))) (sym c)))
-
--- the work alone changed
-pub then-work : {s : Schema} {a a′ : List ℤ} {b : Book} → Holds s a b → (g : Work → Work) → (workOf s a′ ≡ g (workOf s a)) × Keeps s a a′ → Holds s a′ (withWork (g (b .work)) b)
-unfolding workOf
-then-work {s} {a} {a′} h g (e, k) =
-    record { fit = k .fit; is = k .rest ∙ ap (λ (w : Work). withWork w (view s a)) e ∙ ap (λ (b : Book). withWork (g (b .work)) b) (h .is) }
 
 -- the next level opened, by its words
 pub opened-words : {s : Schema} {a a′ : List ℤ} (f : Fit s a) → 0 < length (view s a .closed)
@@ -91,10 +75,6 @@ count-is f e = e ∙ sym (level-count f)
 pub used-is : {s : Schema} {a : List ℤ} {n : ℕ} → Fit s a → n ≡ natOf (getD a 2 𝟘) → n ≡ length (view s a .work .used)
 unfolding workOf
 used-is f e = e ∙ sym (use-is f)
-
-pub kept-word : (s : Schema) (a : List ℤ) → view s a .kept ≡ take 32 (drop 4 a)
-unfolding view
-kept-word s a = refl
 
 pub opener-word : (s : Schema) (a : List ℤ) → natOf (getD a 1 𝟘) ≡ view s a .opener
 unfolding view
@@ -146,17 +126,8 @@ use-small b r =
 
 -- ---- numbers
 
--- a difference of kept numbers
-pub less-small : (x y : List ℤ) → length y ≡ length x → Small 1024 x → Small 1024 y → Small 4096 (less x y)
-less-small x y l h k =
-    record { small = λ i. let b = abs-less (getD x i 𝟘) (getD y i 𝟘) in let p = h .small i in let q = k .small i in rw (get-less x y i l) (omega arith) }
-
--- the kept numbers, and those of level i
+-- the saved numbers of level i
 module _ (b : List ℕ) {a : List ℤ} (h : Sound b a) where
-  pub kept-bound : Small 1024 (take 32 (drop 4 a))
-  unfolding view
-  kept-bound = kept-small (accepted-valid b (h .ready .accepted)) (take 32 (drop 4 a)) (parts (h .undamaged-is) .kept)
-
   module _ (i : ℕ) (lt : i < length (view (schemaOf b) a .levels)) where
     pub saved-bound : Small 1024 (take 32 (drop (37 + i * 33) a))
     saved-bound =
@@ -260,7 +231,7 @@ module _ {s : Schema} {a : List ℤ} (f : Fit s a) (i n base : ℕ) (at : i + n 
       let u : length (back n b .work .used) ≡ base
       = ap (λ (c : Book). length (c .work .used)) p ∙ ap (λ m. length (undoTo m (b .work) .used)) (sym eb) ∙ to-length base (b .work) (omega arith) in
       let k : back n b .kept ≡ l .kept = ap (λ (c : Book). c .kept) p in
-      ap₂ {C = Turn} (λ m z. (Done m z, back n b)) (ap₂ _-_ (sym eu) u) (ap (λ x. sum (less x (b .kept))) k ∙ ap (λ x. sum (less (l .kept) x)) (kept-word s a) ∙ sym en)
+      ap₂ {C = Turn} (λ m z. (Done m z, back n b)) (ap₂ _-_ (sym eu) u) (ap (λ x. sum (less x (b .kept))) k ∙ ap (λ x. sum (less (l .kept) x)) (kept-at s a) ∙ sym en)
 
 -- ---- a rollback of the transaction
 
@@ -291,4 +262,4 @@ module _ {s : Schema} {a : List ℤ} (f : Fit s a) (some : 0 < length (view s a 
   unfolding rolled abort ended emptied
   abort-answer used net eu en =
       let z : length (view s a .work .used) - 0 ≡ used = omega arith in
-      ap₂ {C = Turn} (λ m z. (Done m z, abort (view s a))) z (ap (λ x. sum (less x (view s a .kept))) (first-kept f some (view s a .kept)) ∙ ap (λ x. sum (less (take 32 (drop 37 a)) x)) (kept-word s a) ∙ sym en)
+      ap₂ {C = Turn} (λ m z. (Done m z, abort (view s a))) z (ap (λ x. sum (less x (view s a .kept))) (first-kept f some (view s a .kept)) ∙ ap (λ x. sum (less (take 32 (drop 37 a)) x)) (kept-at s a) ∙ sym en)

@@ -12,32 +12,17 @@ use lib.ListN.{length, getD, drop}
 use lib.Seq.{drop-length}
 use Rattle.schema.specs.Records.{Schema}
 use Rattle.rules.specs.declared.Refusal.the-variants.{LevelState, LevelsFull, CommitWithOrphans}
-use Rattle.rules.specs.declared.Answer.{Answer}
 use Rattle.rules.specs.declared.Answer.the-variants.{Done, Refused}
 use Rattle.rules.specs.Lists.{𝟘}
 use Rattle.rules.specs.Values.{allZero}
 use Rattle.rules.specs.Book.{Level, Book, withWork, emptied, push, close, back, ended, abort, zeroLevels}
 use Rattle.rules.specs.Calls.{begin, savepoint, release, rollbackTo, rollback, commit}
 use Rattle.rules.specs.State.{inTransaction, levelOpen}
-use Rattle.rules.specs.Statement.{Turn, check}
+use Rattle.rules.specs.Statement.{check}
 use Rattle.rules.specs.Step.{opened, openerOf, committed, released, rolled, act}
-use Rattle.rules.specs.Area.{view, onWords}
-use Rattle.bridge.specs.Fit.{Fit, Holds}
-use Rattle.bridge.proofs.HoldLaws.{holds-all, holds-view}
+use Rattle.levels.proofs.LevelReads.{inside-is}
 use Rattle.levels.specs.Parts.{withOpener}
-
--- a turn whose book the area then holds
-pub turn-words : {s : Schema} {a : List ℤ} {t : Turn} {r : Answer} {b : Book} → Holds s a b → t ≡ (r, b) → (r, a) ≡ onWords t
-turn-words {a = a} {t = t} {r = r} {b = b} h e = ap {B = Answer × List ℤ} (λ x. (r, x)) (holds-all h) ∙ sym (ap onWords e)
-
--- a turn that writes nothing
-pub turn-same : {s : Schema} {a : List ℤ} {t : Turn} {r : Answer} → Fit s a → t ≡ (r, view s a) → (r, a) ≡ onWords t
-turn-same f e = turn-words (holds-view f) e
-
-pub inside-is : (ls : List Level) → inTransaction ls ≡ leb 1 (length ls)
-unfolding inTransaction
-inside-is [] = refl
-inside-is (l ∷ ls) = sym (le-leb 1 (suc (length ls)) (omega arith))
+pub use Rattle.bridge.proofs.HoldLaws.{turn-words, turn-same}
 
 module _ (ls : List Level) where
   inside : 0 < length ls → inTransaction ls ≡ true

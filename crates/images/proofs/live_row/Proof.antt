@@ -73,10 +73,14 @@ loop-less c = search needs
 loop-again : tie.Need-loop-again Inv-loop μ-loop
 loop-again c =
     let l = c .before .before .before .loop in
-    let m = c .before .before .before .before .before .before .args .m in
-    let e = ap (λ (z : ℤ). z ∷ []) (back _ (c .held .ok)) ∙ c .held .ensures ∙ ap (λ (z : ℤ). held m (l .i) (z ∷ [])) (back _ (c .before .v .given)) in (
+    let m = c .before .before .before .before .before .before .args .m in (
       search needs,
-      (simp length-set (l .inv .1 .0), l .inv .1 .1 ∙ held-step m (l .i) (l .x) (c .before .before .loop-test .taken) (l .inv .1 .0) e),
+      (
+        simp length-set (l .inv .1 .0),
+        l .inv .1 .1
+            ∙ held-step m (l .i) (l .x) (c .before .before .loop-test .taken) (l .inv .1 .0)
+            (ap (λ (z : ℤ). z ∷ []) (back _ (c .held .ok)) ∙ c .held .ensures ∙ ap (λ (z : ℤ). held m (l .i) (z ∷ [])) (back _ (c .before .v .given))),
+      ),
     )
 
 returns : tie.Need-returns Inv-loop μ-loop

@@ -92,15 +92,16 @@ loop-again : tie.Need-loop-again Inv-loop μ-loop
 loop-again c =
     let s = c .before .before .before .before .before .before .before in
     let l = c .before .before .before .before .before .loop in
-    let null = c .before .before .before .fills-null .result in
-    let e = back _ (c .before .before .filler .ok) ∙ c .before .before .filler .ensures in
-    let f = ap (λ (z : ℤ). pos (256 + flag (getD (s .args .t6) (l .i) 0) null (natOf z % 256))) (back _ (c .before .state .given)) in
-    let g = back _ (c .cell-state .ok) ∙ c .cell-state .ensures ∙ f in (
+    let null = c .before .before .before .fills-null .result in (
       omega arith,
       (
         simp length-set (l .inv .1 .0),
         l .inv .1 .1
-            ∙ fill-step _ _ _ _ _ _ (s .pre .1 .0) (s .pre .1 .1) (l .i) (c .before .before .before .before .loop-test .taken) (l .x) null _ _ (c .before .before .before .fills-null .ensures) e g,
+            ∙ fill-step _ _ _ _ _ _ (s .pre .1 .0) (s .pre .1 .1) (l .i) (c .before .before .before .before .loop-test .taken) (l .x) null _ _ (c .before .before .before .fills-null .ensures)
+            (back _ (c .before .before .filler .ok) ∙ c .before .before .filler .ensures)
+            (back _ (c .cell-state .ok)
+            ∙ c .cell-state .ensures
+            ∙ ap (λ (z : ℤ). pos (256 + flag (getD (s .args .t6) (l .i) 0) null (natOf z % 256))) (back _ (c .before .state .given))),
       ),
     )
 

@@ -3,8 +3,7 @@ use Prim.Native.Nat.{_-_}
 use native.Mathlib.Omega.{arith}
 use Rattle.rules.specs.Lists.{sum, less}
 use Rattle.words.proofs.Signed.{back}
-use Rattle.sums.proofs.KeptSmall.{small-more}
-use Rattle.transactions.proofs.Steps as step
+use Rattle.sums.proofs.KeptSmall.{small-more, less-small}
 use borrow.Author.Needs.{needs}
 use Rattle.transactions.proofs.net_to.Statement.{statement}
 use Rattle.transactions.proofs.net_to.Tie as tie
@@ -25,7 +24,7 @@ less-of-requires : tie.Need-less-of-requires
 less-of-requires c κs = (small-more {m = 1024} (omega arith) (rw (c .numbers-at2 .ensures) (c .before .before .pre .1 .1)), small-more {m = 1024} (omega arith) (rw (c .before .numbers-at .ensures) (c .before .before .pre .1 .0)))
 
 sum-of-requires : tie.Need-sum-of-requires
-sum-of-requires c κs = rw (c .less-of .ensures) (step.less-small (c .before .numbers-at2 .result) (c .before .before .numbers-at .result) (search needs) (rw (c .before .numbers-at2 .ensures) (c .before .before .before .pre .1 .1)) (rw (c .before .before .numbers-at .ensures) (c .before .before .before .pre .1 .0)))
+sum-of-requires c κs = rw (c .less-of .ensures) (less-small {m = 1024} {n = 1024} (c .before .numbers-at2 .result) (c .before .before .numbers-at .result) (search needs) (rw (c .before .numbers-at2 .ensures) (c .before .before .before .pre .1 .1)) (rw (c .before .before .numbers-at .ensures) (c .before .before .before .pre .1 .0)) (omega arith))
 
 returns : tie.Need-returns
 returns c = back _ (c .sum-of .ok) ∙ c .sum-of .ensures ∙ ap sum (c .before .less-of .ensures ∙ ap₂ less (c .before .before .numbers-at2 .ensures) (c .before .before .before .numbers-at .ensures))

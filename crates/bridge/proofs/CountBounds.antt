@@ -1,20 +1,23 @@
--- In a book of the schema's shape the counted orphans are within range: refusal 19 is for Damaged areas only.
+-- The counted orphans of a book of the schema's shape are in range: at most the child's rows, so at most 1,024.
 -- Assumes nothing.
-use mathlib.Core.Path.{_≡_, refl, sym, _∙_, ap, ap₂}
-use mathlib.Core.Bool.{Bool, true, false, _&&_}
+use mathlib.Core.Path.{_≡_, refl, sym, _∙_, ap}
+use mathlib.Core.Bool.{Bool, true, false}
 use mathlib.Core.List.{List, [], _∷_, _++_, map}
-use Prim.Native.Nat.{ℕ, zero, suc, _+_, _-_, _≤_, _<_}
+use Prim.Native.Nat.{ℕ, zero, suc, _+_, _-_, _≤_}
 use native.Mathlib.Omega.{arith}
-use lib.Dec.{leb, le→leb}
-use lib.IntN.{ℤ, pos}
+use lib.Dec.{leb, eqb, le→leb, leb→le, eqb→eq}
+use lib.IntN.{ℤ, pos, negsuc}
 use lib.ListN.{length, getD, replicate, length-map, length-replicate}
-use Rattle.bridge.proofs.Shapes.{Shaped, widths, shapeOf}
-use Rattle.bridge.proofs.Tests.{and-both, passes}
+use Rattle.bridge.proofs.Shapes.{Shaped, widths, shapeOf, rows-short}
+use Rattle.bridge.proofs.Tests.{and-both, passes, holds, all-cons}
 use Rattle.rules.specs.Keys.{orphan, orphans, counts}
 use Rattle.rules.specs.Lists.{𝟘, count}
 use Rattle.rules.specs.Rows.{Tables}
 use Rattle.rules.specs.State.{keptInRange}
 use Rattle.rules.specs.Values.{inRange, sameValue}
+use Rattle.schema.proofs.RangeLaws.{and-left, and-right}
+use Rattle.schema.proofs.SchemaLaws.{Valid}
+use Rattle.schema.specs.Ranges.{all}
 use Rattle.schema.specs.Records.{Schema, Table, noTable, ForeignKey, tableOf}
 
 one : {A : Type 0} (p : A → Bool) (b : Bool) (xs : List A) → count p xs ≤ length xs → elim b [ true ↦ suc (count p xs) | false ↦ count p xs ] ≤ suc (length xs)
@@ -57,3 +60,27 @@ module _ (s : Schema) (tabs : Tables) (h : Shaped s tabs) where
   pub counts-in-range : keptInRange s (s .keys) (counts s tabs) ≡ true
   unfolding counts
   counts-in-range = list-in-range (s .keys) (32 - length (map (λ k. pos (orphans tabs k)) (s .keys)))
+
+-- numbers in range are from 0 to 1,024
+
+zero-limited : (x : ℤ) → sameValue 𝟘 x ≡ true → inRange 1024 x ≡ true
+unfolding sameValue inRange
+zero-limited (pos n) h = passes (leb n 1024) (le→leb n 1024 (let e : 0 ≡ n = eqb→eq 0 n (holds h) in omega arith))
+zero-limited (negsuc n) h = h
+
+rows-limited : (r : ℕ) (x : ℤ) → r ≤ 1024 → inRange r x ≡ true → inRange 1024 x ≡ true
+unfolding inRange
+rows-limited r (pos n) l h = passes (leb n 1024) (le→leb n 1024 (let e : n ≤ r = leb→le n r (holds h) in omega arith))
+rows-limited r (negsuc n) l h = h
+
+pub kept-limited : {s : Schema} → Valid s → (ks : List ForeignKey) (xs : List ℤ) → keptInRange s ks xs ≡ true → all (inRange 1024) xs ≡ true
+unfolding keptInRange all
+kept-limited v ks [] h = refl
+kept-limited {s} v [] (x ∷ xs) h =
+    all-cons (inRange 1024) x xs (zero-limited x (and-left (sameValue 𝟘 x) (keptInRange s [] xs) h)) (kept-limited v [] xs (and-right (sameValue 𝟘 x) (keptInRange s [] xs) h))
+kept-limited {s} v (k ∷ ks) (x ∷ xs) h =
+    let t : Bool = inRange (tableOf s (k .child) .rows) x in
+    all-cons (inRange 1024) x xs (rows-limited (tableOf s (k .child) .rows) x (rows-short v (k .child)) (and-left t (keptInRange s ks xs) h)) (kept-limited v ks xs (and-right t (keptInRange s ks xs) h))
+
+pub counts-limited : {s : Schema} → Valid s → (tabs : Tables) → Shaped s tabs → all (inRange 1024) (counts s tabs) ≡ true
+counts-limited {s} v tabs h = kept-limited v (s .keys) (counts s tabs) (counts-in-range s tabs h)

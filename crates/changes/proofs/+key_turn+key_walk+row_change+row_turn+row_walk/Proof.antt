@@ -1,0 +1,952 @@
+use mathlib.Core.Path.{_≡_, refl, sym, ap, ap₂, _∙_}
+use mathlib.Core.List.{List}
+use Prim.Native.Nat.{_+_, _-_, _*_, _≤_, ℕ, _<_}
+use native.Mathlib.Omega.{arith}
+use borrow.Author.Needs.{needs}
+use borrow.Author.Tests.{not-true, not-false}
+use lib.IntN.{ℤ}
+use lib.ListN.{length, drop}
+use Rattle.schema.specs.Fields.{schemaOf}
+use Rattle.schema.specs.Records.{tableOf, keyOf}
+use Rattle.rules.specs.Lists.{upFrom}
+use Rattle.rules.specs.Rows.{image}
+use Rattle.rules.specs.Book.{Work}
+use Rattle.rules.specs.Change.{children, actions, change}
+use Rattle.bridge.specs.Fit.{workOf}
+use Rattle.moves.specs.Tally.{Follows}
+use Rattle.moves.proofs.TallyLaws.{follows-refl, follows-trans, tallied-after}
+use Rattle.changes.proofs.CycleLaws as law
+use borrow.Fn.Kinds.{In}
+use borrow.Fn.PlainCycle.{Measures, is, falls, and}
+use Rattle.changes.proofs.key_turn.Reads as key-turn
+use Rattle.changes.proofs.key_turn.Kinds as key-turn-kinds
+use Rattle.changes.proofs.+key_turn+key_walk+row_change+row_turn+row_walk.Lts-key_turn as key-turn-lts
+use Rattle.changes.proofs.key_walk.Reads as key-walk
+use Rattle.changes.proofs.key_walk.Kinds as key-walk-kinds
+use Rattle.changes.proofs.+key_turn+key_walk+row_change+row_turn+row_walk.Lts-key_walk as key-walk-lts
+use Rattle.changes.proofs.row_change.Reads as row-change
+use Rattle.changes.proofs.row_change.Kinds as row-change-kinds
+use Rattle.changes.proofs.+key_turn+key_walk+row_change+row_turn+row_walk.Lts-row_change as row-change-lts
+use Rattle.changes.proofs.row_turn.Reads as row-turn
+use Rattle.changes.proofs.row_turn.Kinds as row-turn-kinds
+use Rattle.changes.proofs.+key_turn+key_walk+row_change+row_turn+row_walk.Lts-row_turn as row-turn-lts
+use Rattle.changes.proofs.row_walk.Reads as row-walk
+use Rattle.changes.proofs.row_walk.Kinds as row-walk-kinds
+use Rattle.changes.proofs.+key_turn+key_walk+row_change+row_turn+row_walk.Lts-row_walk as row-walk-lts
+use Rattle.changes.proofs.action_of.Reads as action-of-reads
+use Rattle.changes.proofs.admits.Reads as admits-reads
+use Rattle.changes.proofs.child_after.Reads as child-after-reads
+use Rattle.changes.proofs.next_taken.Reads as next-taken-reads
+use Rattle.tally.proofs.write_tallied.Reads as write-tallied-reads
+use Rattle.fields.proofs.child.Reads as child-reads
+use Rattle.fields.proofs.key_count.Reads as key-count-reads
+use Rattle.fields.proofs.rows.Reads as rows-reads
+use Rattle.rows.proofs.fires.Reads as fires-reads
+use Rattle.changes.proofs.+key_turn+key_walk+row_change+row_turn+row_walk.{statement}
+use Rattle.changes.proofs.+key_turn+key_walk+row_change+row_turn+row_walk.Tie.{close}
+
+abbrev μ-key-turn : Measures 3 key-turn-kinds.ps ℕ
+μ-key-turn κs a = 5 * a .1 .1 .1 .1 .1 .1 .1 .0 + 3
+
+abbrev μ-key-walk : Measures 3 key-walk-kinds.ps ℕ
+μ-key-walk κs a = 5 * a .1 .1 .1 .1 .1 .1 .0 + 4
+
+abbrev μ-row-change : Measures 3 row-change-kinds.ps ℕ
+μ-row-change κs a = 5 * a .1 .1 .1 .1 .1 .1 .0
+
+abbrev μ-row-turn : Measures 3 row-turn-kinds.ps ℕ
+μ-row-turn κs a = 5 * a .1 .1 .1 .1 .1 .1 .1 .0 + 1
+
+abbrev μ-row-walk : Measures 3 row-walk-kinds.ps ℕ
+μ-row-walk κs a = 5 * a .1 .1 .1 .1 .1 .1 .0 + 2
+
+abbrev key-turn-at : ℕ → In 3 key-turn-kinds.ps
+key-turn-at t = and 3 key-turn-kinds.ps (is 3 key-turn-kinds.ps μ-key-turn t) key-turn.Pre
+
+abbrev key-turn-below : ℕ → In 3 key-turn-kinds.ps
+key-turn-below t =
+    and 3 key-turn-kinds.ps (falls 3 key-turn-kinds.ps _<_ μ-key-turn t) key-turn.Pre
+
+abbrev key-walk-at : ℕ → In 3 key-walk-kinds.ps
+key-walk-at t = and 3 key-walk-kinds.ps (is 3 key-walk-kinds.ps μ-key-walk t) key-walk.Pre
+
+abbrev key-walk-below : ℕ → In 3 key-walk-kinds.ps
+key-walk-below t =
+    and 3 key-walk-kinds.ps (falls 3 key-walk-kinds.ps _<_ μ-key-walk t) key-walk.Pre
+
+abbrev row-change-at : ℕ → In 3 row-change-kinds.ps
+row-change-at t =
+    and 3 row-change-kinds.ps (is 3 row-change-kinds.ps μ-row-change t) row-change.Pre
+
+abbrev row-change-below : ℕ → In 3 row-change-kinds.ps
+row-change-below t =
+    and 3 row-change-kinds.ps (falls 3 row-change-kinds.ps _<_ μ-row-change t) row-change.Pre
+
+abbrev row-turn-at : ℕ → In 3 row-turn-kinds.ps
+row-turn-at t = and 3 row-turn-kinds.ps (is 3 row-turn-kinds.ps μ-row-turn t) row-turn.Pre
+
+abbrev row-turn-below : ℕ → In 3 row-turn-kinds.ps
+row-turn-below t =
+    and 3 row-turn-kinds.ps (falls 3 row-turn-kinds.ps _<_ μ-row-turn t) row-turn.Pre
+
+abbrev row-walk-at : ℕ → In 3 row-walk-kinds.ps
+row-walk-at t = and 3 row-walk-kinds.ps (is 3 row-walk-kinds.ps μ-row-walk t) row-walk.Pre
+
+abbrev row-walk-below : ℕ → In 3 row-walk-kinds.ps
+row-walk-below t =
+    and 3 row-walk-kinds.ps (falls 3 row-walk-kinds.ps _<_ μ-row-walk t) row-walk.Pre
+
+key-turn-fires-requires : (t : ℕ) → key-turn-lts.Need-fires-requires (
+  fires-reads.Asked,
+  fires-reads.Learnt,
+  row-walk-below t,
+  row-walk.Post,
+) (key-turn-at t) key-turn.Post
+key-turn-fires-requires t c κs = (c .before .pre .1 .0 .ready .accepted, c .before .pre .1 .1)
+
+key-turn-returns : (t : ℕ) → key-turn-lts.Need-returns (
+  fires-reads.Asked,
+  fires-reads.Learnt,
+  row-walk-below t,
+  row-walk.Post,
+) (key-turn-at t) key-turn.Post
+key-turn-returns t c = (law.key-off _ _ _ _ _ _ _ (sym (c .before .fires .ensures) ∙ not-true _ (c .if1 .taken)), follows-refl (c .before .before .before .pre .1 .0 .ready .fit))
+
+key-turn-row-walk-requires : (t : ℕ) → key-turn-lts.Need-row-walk-requires (
+  fires-reads.Asked,
+  fires-reads.Learnt,
+  row-walk-below t,
+  row-walk.Post,
+) (key-turn-at t) key-turn.Post
+key-turn-row-walk-requires t c κs = (search needs, (c .before .before .before .before .before .pre .1 .0, c .before .before .before .before .before .pre .1 .1))
+
+key-turn-same-length : (t : ℕ) → key-turn-lts.Need-same-length (
+  fires-reads.Asked,
+  fires-reads.Learnt,
+  row-walk-below t,
+  row-walk.Post,
+) (key-turn-at t) key-turn.Post
+key-turn-same-length t c = search needs
+
+key-turn-returns-2 : (t : ℕ) → key-turn-lts.Need-returns-2 (
+  fires-reads.Asked,
+  fires-reads.Learnt,
+  row-walk-below t,
+  row-walk.Post,
+) (key-turn-at t) key-turn.Post
+key-turn-returns-2 t c = (c .before .row-walk .ensures .0 ∙ law.key-on _ _ _ _ _ _ _ (sym (c .before .before .before .before .before .fires .ensures) ∙ not-false _ (c .before .before .before .before .if1 .left)), c .before .row-walk .ensures .1)
+
+abbrev key-walk-Inv-loop : key-walk-lts.InvT-loop
+key-walk-Inv-loop schema area₀ tally₀ t old new left n k₀ area tally k = (k ≤ n) × ((length area ≡ length area₀) × (Follows (schemaOf schema) tally₀ area₀ tally area × (actions (change left (schemaOf schema)) (schemaOf schema) new t old ((schemaOf schema) .keys) (workOf (schemaOf schema) area₀) ≡ actions (change left (schemaOf schema)) (schemaOf schema) new t old (drop k ((schemaOf schema) .keys)) (workOf (schemaOf schema) area))))
+
+abbrev key-walk-μ-loop : key-walk-lts.MeasureT-loop
+key-walk-μ-loop schema area₀ tally₀ t old new left n k₀ area tally k = n - k
+
+key-walk-key-count-requires : (t : ℕ) → key-walk-lts.Need-key-count-requires (
+  key-count-reads.Asked,
+  key-count-reads.Learnt,
+  key-turn-below t,
+  key-turn.Post,
+) (key-walk-at t) key-walk.Post key-walk-Inv-loop key-walk-μ-loop
+key-walk-key-count-requires t c κs = c .before .pre .1 .ready .accepted
+
+key-walk-loop-holds : (t : ℕ) → key-walk-lts.Need-loop-holds (
+  key-count-reads.Asked,
+  key-count-reads.Learnt,
+  key-turn-below t,
+  key-turn.Post,
+) (key-walk-at t) key-walk.Post key-walk-Inv-loop key-walk-μ-loop
+key-walk-loop-holds t c = (search needs, (refl, (follows-refl (c .before .before .pre .1 .ready .fit), refl)))
+
+key-walk-key-turn-requires : (t : ℕ) → key-walk-lts.Need-key-turn-requires (
+  key-count-reads.Asked,
+  key-count-reads.Learnt,
+  key-turn-below t,
+  key-turn.Post,
+) (key-walk-at t) key-walk.Post key-walk-Inv-loop key-walk-μ-loop
+key-walk-key-turn-requires t c κs =
+    let s = c .before .before .before .before .before .before in
+    let a = s .args in
+    let sc = schemaOf (a .schema .now) in
+    let l = c .before .before .before .loop in
+    let lt : l .k < length (sc .keys) = omega (arith, c .before .before .before .before .key-count .ensures .0, c .before .before .loop-test .taken) in
+    (search needs, (tallied-after (s .pre .1) (l .inv .1 .1 .0), lt))
+
+key-walk-enum-told : (t : ℕ) → key-walk-lts.Need-enum-told (
+  key-count-reads.Asked,
+  key-count-reads.Learnt,
+  key-turn-below t,
+  key-turn.Post,
+) (key-walk-at t) key-walk.Post key-walk-Inv-loop key-walk-μ-loop
+key-walk-enum-told t c = search needs
+
+key-walk-enum-known-c : (t : ℕ) → key-walk-lts.Need-enum-known-c (
+  key-count-reads.Asked,
+  key-count-reads.Learnt,
+  key-turn-below t,
+  key-turn.Post,
+) (key-walk-at t) key-walk.Post key-walk-Inv-loop key-walk-μ-loop
+key-walk-enum-known-c t c = search needs
+
+key-walk-same-length : (t : ℕ) → key-walk-lts.Need-same-length (
+  key-count-reads.Asked,
+  key-count-reads.Learnt,
+  key-turn-below t,
+  key-turn.Post,
+) (key-walk-at t) key-walk.Post key-walk-Inv-loop key-walk-μ-loop
+key-walk-same-length t c = search needs
+
+key-walk-returns : (t : ℕ) → key-walk-lts.Need-returns (
+  key-count-reads.Asked,
+  key-count-reads.Learnt,
+  key-turn-below t,
+  key-turn.Post,
+) (key-walk-at t) key-walk.Post key-walk-Inv-loop key-walk-μ-loop
+key-walk-returns t c =
+    let s = c .before .before .before .before .before .before .before .before .before .before .before in
+    let a = s .args in
+    let sc = schemaOf (a .schema .now) in
+    let l = c .before .before .before .before .before .before .before .before .loop in
+    let lt : l .k < length (sc .keys) = omega (arith, c .before .before .before .before .before .before .before .before .before .key-count .ensures .0, c .before .before .before .before .before .before .before .loop-test .taken) in
+    (sym (l .inv .1 .1 .1 ∙ law.keys-refused (change (a .left) sc) sc (a .new) (a .t) (a .old) (l .k) _ lt _ _ (c .before .before .before .before .key-turn .ensures .0) (c .before .c .given .1)), follows-trans (l .inv .1 .1 .0) (c .before .before .before .before .key-turn .ensures .1))
+
+key-walk-add-k : (t : ℕ) → key-walk-lts.Need-add-k (
+  key-count-reads.Asked,
+  key-count-reads.Learnt,
+  key-turn-below t,
+  key-turn.Post,
+) (key-walk-at t) key-walk.Post key-walk-Inv-loop key-walk-μ-loop
+key-walk-add-k t c = search needs
+
+key-walk-loop-less : (t : ℕ) → key-walk-lts.Need-loop-less (
+  key-count-reads.Asked,
+  key-count-reads.Learnt,
+  key-turn-below t,
+  key-turn.Post,
+) (key-walk-at t) key-walk.Post key-walk-Inv-loop key-walk-μ-loop
+key-walk-loop-less t c = search needs
+
+key-walk-loop-again : (t : ℕ) → key-walk-lts.Need-loop-again (
+  key-count-reads.Asked,
+  key-count-reads.Learnt,
+  key-turn-below t,
+  key-turn.Post,
+) (key-walk-at t) key-walk.Post key-walk-Inv-loop key-walk-μ-loop
+key-walk-loop-again t c =
+    let s = c .before .before .before .before .before .before .before .before .before .before in
+    let a = s .args in
+    let sc = schemaOf (a .schema .now) in
+    let l = c .before .before .before .before .before .before .before .loop in
+    let lt : l .k < length (sc .keys) = omega (arith, c .before .before .before .before .before .before .before .before .key-count .ensures .0, c .before .before .before .before .before .before .loop-test .taken) in
+    (search needs, (search needs, (follows-trans (l .inv .1 .1 .0) (c .before .before .before .key-turn .ensures .1), l .inv .1 .1 .1 ∙ law.keys-done (change (a .left) sc) sc (a .new) (a .t) (a .old) (l .k) _ lt _ _ (c .before .before .before .key-turn .ensures .0) (c .enum-told .given .1))))
+
+key-walk-same-length-2 : (t : ℕ) → key-walk-lts.Need-same-length-2 (
+  key-count-reads.Asked,
+  key-count-reads.Learnt,
+  key-turn-below t,
+  key-turn.Post,
+) (key-walk-at t) key-walk.Post key-walk-Inv-loop key-walk-μ-loop
+key-walk-same-length-2 t c = search needs
+
+key-walk-returns-2 : (t : ℕ) → key-walk-lts.Need-returns-2 (
+  key-count-reads.Asked,
+  key-count-reads.Learnt,
+  key-turn-below t,
+  key-turn.Post,
+) (key-walk-at t) key-walk.Post key-walk-Inv-loop key-walk-μ-loop
+key-walk-returns-2 t c =
+    let s = c .before .before .before .before in
+    let a = s .args in
+    let sc = schemaOf (a .schema .now) in
+    let l = c .before .loop in
+    let e : length (sc .keys) ≤ l .k = omega (arith, c .before .before .key-count .ensures .0, c .loop-test .left) in
+    (sym (l .inv .1 .1 .1 ∙ law.keys-none _ _ _ _ _ _ _ e), l .inv .1 .1 .0)
+
+row-change-returns : (t : ℕ) → row-change-lts.Need-returns (
+  admits-reads.Asked,
+  admits-reads.Learnt,
+  write-tallied-reads.Asked,
+  write-tallied-reads.Learnt,
+  key-walk-below t,
+  key-walk.Post,
+) (row-change-at t) row-change.Post
+row-change-returns t c = (law.change-none _ _ _ _ _ _ (c .if1 .taken), follows-refl (c .before .before .pre .1 .tallied .ready .fit))
+
+row-change-admits-requires : (t : ℕ) → row-change-lts.Need-admits-requires (
+  admits-reads.Asked,
+  admits-reads.Learnt,
+  write-tallied-reads.Asked,
+  write-tallied-reads.Learnt,
+  key-walk-below t,
+  key-walk.Post,
+) (row-change-at t) row-change.Post
+row-change-admits-requires t c κs = (c .before .before .before .pre .1 .tallied .ready, c .before .before .before .pre .1 .table)
+
+row-change-enum-known-c : (t : ℕ) → row-change-lts.Need-enum-known-c (
+  admits-reads.Asked,
+  admits-reads.Learnt,
+  write-tallied-reads.Asked,
+  write-tallied-reads.Learnt,
+  key-walk-below t,
+  key-walk.Post,
+) (row-change-at t) row-change.Post
+row-change-enum-known-c t c = search needs
+
+row-change-enum-told : (t : ℕ) → row-change-lts.Need-enum-told (
+  admits-reads.Asked,
+  admits-reads.Learnt,
+  write-tallied-reads.Asked,
+  write-tallied-reads.Learnt,
+  key-walk-below t,
+  key-walk.Post,
+) (row-change-at t) row-change.Post
+row-change-enum-told t c = search needs
+
+row-change-write-tallied-requires : (t : ℕ) → row-change-lts.Need-write-tallied-requires (
+  admits-reads.Asked,
+  admits-reads.Learnt,
+  write-tallied-reads.Asked,
+  write-tallied-reads.Learnt,
+  key-walk-below t,
+  key-walk.Post,
+) (row-change-at t) row-change.Post
+row-change-write-tallied-requires t c κs = (c .before .before .before .before .before .before .before .before .pre .1, law.change-room _ _ _ _ _ (c .before .before .before .before .before .before .before .before .args .left) (c .before .before .before .before .before .before .if1 .left) _ (c .before .before .before .before .admits .ensures) (c .before .before .enum-told .given .1))
+
+row-change-sub-key-walk : (t : ℕ) → row-change-lts.Need-sub-key-walk (
+  admits-reads.Asked,
+  admits-reads.Learnt,
+  write-tallied-reads.Asked,
+  write-tallied-reads.Learnt,
+  key-walk-below t,
+  key-walk.Post,
+) (row-change-at t) row-change.Post
+row-change-sub-key-walk t c = search needs
+
+row-change-key-walk-requires : (t : ℕ) → row-change-lts.Need-key-walk-requires (
+  admits-reads.Asked,
+  admits-reads.Learnt,
+  write-tallied-reads.Asked,
+  write-tallied-reads.Learnt,
+  key-walk-below t,
+  key-walk.Post,
+) (row-change-at t) row-change.Post
+row-change-key-walk-requires t c κs = (search needs, tallied-after (c .before .before .before .before .before .before .before .before .before .before .before .before .pre .1 .tallied) (c .before .before .before .write-tallied .ensures .1 .1))
+
+row-change-same-length : (t : ℕ) → row-change-lts.Need-same-length (
+  admits-reads.Asked,
+  admits-reads.Learnt,
+  write-tallied-reads.Asked,
+  write-tallied-reads.Learnt,
+  key-walk-below t,
+  key-walk.Post,
+) (row-change-at t) row-change.Post
+row-change-same-length t c = search needs
+
+row-change-returns-2 : (t : ℕ) → row-change-lts.Need-returns-2 (
+  admits-reads.Asked,
+  admits-reads.Learnt,
+  write-tallied-reads.Asked,
+  write-tallied-reads.Learnt,
+  key-walk-below t,
+  key-walk.Post,
+) (row-change-at t) row-change.Post
+row-change-returns-2 t c = (law.change-refused _ _ _ _ _ _ (c .before .before .before .before .before .if1 .left) _ (c .before .before .before .admits .ensures) (c .before .c .given .1), follows-refl (c .before .before .before .before .before .before .before .pre .1 .tallied .ready .fit))
+
+row-change-same-length-2 : (t : ℕ) → row-change-lts.Need-same-length-2 (
+  admits-reads.Asked,
+  admits-reads.Learnt,
+  write-tallied-reads.Asked,
+  write-tallied-reads.Learnt,
+  key-walk-below t,
+  key-walk.Post,
+) (row-change-at t) row-change.Post
+row-change-same-length-2 t c = search needs
+
+row-change-returns-3 : (t : ℕ) → row-change-lts.Need-returns-3 (
+  admits-reads.Asked,
+  admits-reads.Learnt,
+  write-tallied-reads.Asked,
+  write-tallied-reads.Learnt,
+  key-walk-below t,
+  key-walk.Post,
+) (row-change-at t) row-change.Post
+row-change-returns-3 t c =
+    let s = c .before .before .before .before .before .before .before .before .before .before .before .before .before .before in
+    let a = s .args in
+    let sc = schemaOf (a .schema .now) in (
+      c .before .key-walk .ensures .0
+          ∙ ap₂ (λ (x : List ℤ) (w : Work). actions (change (a .left - 1) sc) sc (a .image) (a .t) x (sc .keys) w) (c .before .before .before .before .before .write-tallied .ensures .0) (c .before .before .before .before .before .write-tallied .ensures .1 .0)
+          ∙ law.change-more _ _ _ _ _ _ (c .before .before .before .before .before .before .before .before .before .before .before .before .if1 .left) _ (c .before .before .before .before .before .before .before .before .before .before .admits .ensures) (c .before .before .before .before .before .before .before .before .enum-told .given .1),
+      follows-trans (c .before .before .before .before .before .write-tallied .ensures .1 .1) (c .before .key-walk .ensures .1),
+    )
+
+row-turn-action-of-requires : (t : ℕ) → row-turn-lts.Need-action-of-requires (
+  action-of-reads.Asked,
+  action-of-reads.Learnt,
+  child-after-reads.Asked,
+  child-after-reads.Learnt,
+  row-change-below t,
+  row-change.Post,
+) (row-turn-at t) row-turn.Post
+row-turn-action-of-requires t c κs = (c .before .pre .1 .1 .accepted, c .before .pre .1 .1 .key)
+
+row-turn-enum-told : (t : ℕ) → row-turn-lts.Need-enum-told (
+  action-of-reads.Asked,
+  action-of-reads.Learnt,
+  child-after-reads.Asked,
+  child-after-reads.Learnt,
+  row-change-below t,
+  row-change.Post,
+) (row-turn-at t) row-turn.Post
+row-turn-enum-told t c = search needs
+
+row-turn-enum-told-2 : (t : ℕ) → row-turn-lts.Need-enum-told-2 (
+  action-of-reads.Asked,
+  action-of-reads.Learnt,
+  child-after-reads.Asked,
+  child-after-reads.Learnt,
+  row-change-below t,
+  row-change.Post,
+) (row-turn-at t) row-turn.Post
+row-turn-enum-told-2 t c = search needs
+
+row-turn-enum-told-3 : (t : ℕ) → row-turn-lts.Need-enum-told-3 (
+  action-of-reads.Asked,
+  action-of-reads.Learnt,
+  child-after-reads.Asked,
+  child-after-reads.Learnt,
+  row-change-below t,
+  row-change.Post,
+) (row-turn-at t) row-turn.Post
+row-turn-enum-told-3 t c = search needs
+
+row-turn-child-after-requires : (t : ℕ) → row-turn-lts.Need-child-after-requires (
+  action-of-reads.Asked,
+  action-of-reads.Learnt,
+  child-after-reads.Asked,
+  child-after-reads.Learnt,
+  row-change-below t,
+  row-change.Post,
+) (row-turn-at t) row-turn.Post
+row-turn-child-after-requires t c κs = (law.at-placed (c .before .before .before .before .before .pre .1 .0), c .before .before .before .before .before .pre .1 .1)
+
+row-turn-row-change-requires : (t : ℕ) → row-turn-lts.Need-row-change-requires (
+  action-of-reads.Asked,
+  action-of-reads.Learnt,
+  child-after-reads.Asked,
+  child-after-reads.Learnt,
+  row-change-below t,
+  row-change.Post,
+) (row-turn-at t) row-turn.Post
+row-turn-row-change-requires t c κs = (search needs, c .before .before .before .before .before .before .before .before .pre .1 .0)
+
+row-turn-enum-told-4 : (t : ℕ) → row-turn-lts.Need-enum-told-4 (
+  action-of-reads.Asked,
+  action-of-reads.Learnt,
+  child-after-reads.Asked,
+  child-after-reads.Learnt,
+  row-change-below t,
+  row-change.Post,
+) (row-turn-at t) row-turn.Post
+row-turn-enum-told-4 t c = search needs
+
+row-turn-child-after-requires-2 : (t : ℕ) → row-turn-lts.Need-child-after-requires-2 (
+  action-of-reads.Asked,
+  action-of-reads.Learnt,
+  child-after-reads.Asked,
+  child-after-reads.Learnt,
+  row-change-below t,
+  row-change.Post,
+) (row-turn-at t) row-turn.Post
+row-turn-child-after-requires-2 t c κs = (law.at-placed (c .before .before .before .before .before .pre .1 .0), c .before .before .before .before .before .pre .1 .1)
+
+row-turn-row-change-requires-2 : (t : ℕ) → row-turn-lts.Need-row-change-requires-2 (
+  action-of-reads.Asked,
+  action-of-reads.Learnt,
+  child-after-reads.Asked,
+  child-after-reads.Learnt,
+  row-change-below t,
+  row-change.Post,
+) (row-turn-at t) row-turn.Post
+row-turn-row-change-requires-2 t c κs = (search needs, c .before .before .before .before .before .before .before .before .pre .1 .0)
+
+row-turn-enum-told-5 : (t : ℕ) → row-turn-lts.Need-enum-told-5 (
+  action-of-reads.Asked,
+  action-of-reads.Learnt,
+  child-after-reads.Asked,
+  child-after-reads.Learnt,
+  row-change-below t,
+  row-change.Post,
+) (row-turn-at t) row-turn.Post
+row-turn-enum-told-5 t c = search needs
+
+row-turn-child-after-requires-3 : (t : ℕ) → row-turn-lts.Need-child-after-requires-3 (
+  action-of-reads.Asked,
+  action-of-reads.Learnt,
+  child-after-reads.Asked,
+  child-after-reads.Learnt,
+  row-change-below t,
+  row-change.Post,
+) (row-turn-at t) row-turn.Post
+row-turn-child-after-requires-3 t c κs = (law.at-placed (c .before .before .before .before .before .pre .1 .0), c .before .before .before .before .before .pre .1 .1)
+
+row-turn-row-change-requires-3 : (t : ℕ) → row-turn-lts.Need-row-change-requires-3 (
+  action-of-reads.Asked,
+  action-of-reads.Learnt,
+  child-after-reads.Asked,
+  child-after-reads.Learnt,
+  row-change-below t,
+  row-change.Post,
+) (row-turn-at t) row-turn.Post
+row-turn-row-change-requires-3 t c κs = (search needs, c .before .before .before .before .before .before .before .before .pre .1 .0)
+
+row-turn-returns : (t : ℕ) → row-turn-lts.Need-returns (
+  action-of-reads.Asked,
+  action-of-reads.Learnt,
+  child-after-reads.Asked,
+  child-after-reads.Learnt,
+  row-change-below t,
+  row-change.Post,
+) (row-turn-at t) row-turn.Post
+row-turn-returns t c = (law.row-none _ _ _ _ _ _ _ _ (c .before .before .action-of .ensures) (c .enum-told .given .1), follows-refl (c .before .before .before .before .pre .1 .0 .tallied .ready .fit))
+
+row-turn-returns-2 : (t : ℕ) → row-turn-lts.Need-returns-2 (
+  action-of-reads.Asked,
+  action-of-reads.Learnt,
+  child-after-reads.Asked,
+  child-after-reads.Learnt,
+  row-change-below t,
+  row-change.Post,
+) (row-turn-at t) row-turn.Post
+row-turn-returns-2 t c = (law.row-restrict _ _ _ _ _ _ _ _ (c .before .before .action-of .ensures) (c .enum-told2 .given .1), follows-refl (c .before .before .before .before .pre .1 .0 .tallied .ready .fit))
+
+row-turn-same-length : (t : ℕ) → row-turn-lts.Need-same-length (
+  action-of-reads.Asked,
+  action-of-reads.Learnt,
+  child-after-reads.Asked,
+  child-after-reads.Learnt,
+  row-change-below t,
+  row-change.Post,
+) (row-turn-at t) row-turn.Post
+row-turn-same-length t c = search needs
+
+row-turn-returns-3 : (t : ℕ) → row-turn-lts.Need-returns-3 (
+  action-of-reads.Asked,
+  action-of-reads.Learnt,
+  child-after-reads.Asked,
+  child-after-reads.Learnt,
+  row-change-below t,
+  row-change.Post,
+) (row-turn-at t) row-turn.Post
+row-turn-returns-3 t c =
+    let s = c .before .before .before .before .before .before .before .before .before .before in
+    let a = s .args in
+    let sc = schemaOf (a .schema .now) in
+    (c .before .row-change .ensures .0 ∙ law.row-null (change (a .left) sc) sc (a .new) (keyOf sc (a .k)) (a .j) (image (a .t) (a .j) (workOf sc (a .area .now) .tabs)) (workOf sc (a .area .now)) _ (c .before .before .before .before .before .before .before .before .action-of .ensures) (a .t) (s .pre .1 .1 .child) _ (c .before .before .before .before .before .before .enum-told3 .given .1) (c .before .before .before .before .child-after .ensures), c .before .row-change .ensures .1)
+
+row-turn-same-length-2 : (t : ℕ) → row-turn-lts.Need-same-length-2 (
+  action-of-reads.Asked,
+  action-of-reads.Learnt,
+  child-after-reads.Asked,
+  child-after-reads.Learnt,
+  row-change-below t,
+  row-change.Post,
+) (row-turn-at t) row-turn.Post
+row-turn-same-length-2 t c = search needs
+
+row-turn-returns-4 : (t : ℕ) → row-turn-lts.Need-returns-4 (
+  action-of-reads.Asked,
+  action-of-reads.Learnt,
+  child-after-reads.Asked,
+  child-after-reads.Learnt,
+  row-change-below t,
+  row-change.Post,
+) (row-turn-at t) row-turn.Post
+row-turn-returns-4 t c =
+    let s = c .before .before .before .before .before .before .before .before .before .before in
+    let a = s .args in
+    let sc = schemaOf (a .schema .now) in
+    (c .before .row-change2 .ensures .0 ∙ law.row-default (change (a .left) sc) sc (a .new) (keyOf sc (a .k)) (a .j) (image (a .t) (a .j) (workOf sc (a .area .now) .tabs)) (workOf sc (a .area .now)) _ (c .before .before .before .before .before .before .before .before .action-of .ensures) (a .t) (s .pre .1 .1 .child) _ (c .before .before .before .before .before .before .enum-told4 .given .1) (c .before .before .before .before .child-after2 .ensures), c .before .row-change2 .ensures .1)
+
+row-turn-same-length-3 : (t : ℕ) → row-turn-lts.Need-same-length-3 (
+  action-of-reads.Asked,
+  action-of-reads.Learnt,
+  child-after-reads.Asked,
+  child-after-reads.Learnt,
+  row-change-below t,
+  row-change.Post,
+) (row-turn-at t) row-turn.Post
+row-turn-same-length-3 t c = search needs
+
+row-turn-returns-5 : (t : ℕ) → row-turn-lts.Need-returns-5 (
+  action-of-reads.Asked,
+  action-of-reads.Learnt,
+  child-after-reads.Asked,
+  child-after-reads.Learnt,
+  row-change-below t,
+  row-change.Post,
+) (row-turn-at t) row-turn.Post
+row-turn-returns-5 t c =
+    let s = c .before .before .before .before .before .before .before .before .before .before in
+    let a = s .args in
+    let sc = schemaOf (a .schema .now) in
+    (c .before .row-change3 .ensures .0 ∙ law.row-cascade (change (a .left) sc) sc (a .new) (keyOf sc (a .k)) (a .j) (image (a .t) (a .j) (workOf sc (a .area .now) .tabs)) (workOf sc (a .area .now)) _ (c .before .before .before .before .before .before .before .before .action-of .ensures) (a .t) (s .pre .1 .1 .child) _ (c .before .before .before .before .before .before .enum-told5 .given .1) (c .before .before .before .before .child-after3 .ensures), c .before .row-change3 .ensures .1)
+
+abbrev row-walk-Inv-loop : row-walk-lts.InvT-loop
+row-walk-Inv-loop schema area₀ tally₀ k old new left t n j₀ area tally j = (j ≤ n) × ((length area ≡ length area₀) × (Follows (schemaOf schema) tally₀ area₀ tally area × (children (change left (schemaOf schema)) (schemaOf schema) new (keyOf (schemaOf schema) k) old (upFrom 0 (tableOf (schemaOf schema) (keyOf (schemaOf schema) k .child) .rows)) (workOf (schemaOf schema) area₀) ≡ children (change left (schemaOf schema)) (schemaOf schema) new (keyOf (schemaOf schema) k) old (upFrom j (n - j)) (workOf (schemaOf schema) area))))
+
+abbrev row-walk-μ-loop : row-walk-lts.MeasureT-loop
+row-walk-μ-loop schema area₀ tally₀ k old new left t n j₀ area tally j = n - j
+
+row-walk-child-requires : (t : ℕ) → row-walk-lts.Need-child-requires (
+  child-reads.Asked,
+  child-reads.Learnt,
+  rows-reads.Asked,
+  rows-reads.Learnt,
+  next-taken-reads.Asked,
+  next-taken-reads.Learnt,
+  row-turn-below t,
+  row-turn.Post,
+) (row-walk-at t) row-walk.Post row-walk-Inv-loop row-walk-μ-loop
+row-walk-child-requires t c κs = (c .before .pre .1 .0 .ready .accepted, c .before .pre .1 .1)
+
+row-walk-rows-requires : (t : ℕ) → row-walk-lts.Need-rows-requires (
+  child-reads.Asked,
+  child-reads.Learnt,
+  rows-reads.Asked,
+  rows-reads.Learnt,
+  next-taken-reads.Asked,
+  next-taken-reads.Learnt,
+  row-turn-below t,
+  row-turn.Post,
+) (row-walk-at t) row-walk.Post row-walk-Inv-loop row-walk-μ-loop
+row-walk-rows-requires t c κs = (c .before .before .pre .1 .0 .ready .accepted, c .child .ensures .1)
+
+row-walk-loop-holds : (t : ℕ) → row-walk-lts.Need-loop-holds (
+  child-reads.Asked,
+  child-reads.Learnt,
+  rows-reads.Asked,
+  rows-reads.Learnt,
+  next-taken-reads.Asked,
+  next-taken-reads.Learnt,
+  row-turn-below t,
+  row-turn.Post,
+) (row-walk-at t) row-walk.Post row-walk-Inv-loop row-walk-μ-loop
+row-walk-loop-holds t c =
+    let s = c .before .before .before in
+    let a = s .args in
+    let sc = schemaOf (a .schema .now) in
+    let rn : c .rows .result ≡ tableOf sc (keyOf sc (a .k) .child) .rows = c .rows .ensures .0 ∙ ap (λ (u : ℕ). tableOf sc u .rows) (c .before .child .ensures .0) in
+    (search needs, (refl, (follows-refl (s .pre .1 .0 .ready .fit), law.rows-start _ _ _ _ _ _ _ rn)))
+
+row-walk-next-taken-requires : (t : ℕ) → row-walk-lts.Need-next-taken-requires (
+  child-reads.Asked,
+  child-reads.Learnt,
+  rows-reads.Asked,
+  rows-reads.Learnt,
+  next-taken-reads.Asked,
+  next-taken-reads.Learnt,
+  row-turn-below t,
+  row-turn.Post,
+) (row-walk-at t) row-walk.Post row-walk-Inv-loop row-walk-μ-loop
+row-walk-next-taken-requires t c κs =
+    let s = c .before .before .before .before .before .before in
+    let a = s .args in
+    let sc = schemaOf (a .schema .now) in
+    let rn : c .before .before .before .rows .result ≡ tableOf sc (keyOf sc (a .k) .child) .rows = c .before .before .before .rows .ensures .0 ∙ ap (λ (u : ℕ). tableOf sc u .rows) (c .before .before .before .before .child .ensures .0) in
+    let l = c .before .before .loop in
+    (tallied-after (s .pre .1 .0) (l .inv .1 .1 .0) .ready, (s .pre .1 .1, omega (arith, rn, l .inv .0)))
+
+row-walk-same-length : (t : ℕ) → row-walk-lts.Need-same-length (
+  child-reads.Asked,
+  child-reads.Learnt,
+  rows-reads.Asked,
+  rows-reads.Learnt,
+  next-taken-reads.Asked,
+  next-taken-reads.Learnt,
+  row-turn-below t,
+  row-turn.Post,
+) (row-walk-at t) row-walk.Post row-walk-Inv-loop row-walk-μ-loop
+row-walk-same-length t c = search needs
+
+row-walk-returns : (t : ℕ) → row-walk-lts.Need-returns (
+  child-reads.Asked,
+  child-reads.Learnt,
+  rows-reads.Asked,
+  rows-reads.Learnt,
+  next-taken-reads.Asked,
+  next-taken-reads.Learnt,
+  row-turn-below t,
+  row-turn.Post,
+) (row-walk-at t) row-walk.Post row-walk-Inv-loop row-walk-μ-loop
+row-walk-returns t c =
+    let s = c .before .before .before .before .before .before .before .before in
+    let a = s .args in
+    let sc = schemaOf (a .schema .now) in
+    let rn : c .before .before .before .before .before .rows .result ≡ tableOf sc (keyOf sc (a .k) .child) .rows = c .before .before .before .before .before .rows .ensures .0 ∙ ap (λ (u : ℕ). tableOf sc u .rows) (c .before .before .before .before .before .before .child .ensures .0) in
+    let l = c .before .before .before .before .loop in
+    let f = c .before .next-taken .ensures in
+    (sym (l .inv .1 .1 .1 ∙ law.rows-past (change (a .left) sc) sc (a .new) (keyOf sc (a .k)) (a .old) (c .before .before .before .before .before .rows .result) (l .j) (c .before .next-taken .result) _ (f .low) (omega (arith, f .high, rn)) (c .if1 .taken) (f .skipped)), l .inv .1 .1 .0)
+
+row-walk-row-turn-requires : (t : ℕ) → row-walk-lts.Need-row-turn-requires (
+  child-reads.Asked,
+  child-reads.Learnt,
+  rows-reads.Asked,
+  rows-reads.Learnt,
+  next-taken-reads.Asked,
+  next-taken-reads.Learnt,
+  row-turn-below t,
+  row-turn.Post,
+) (row-walk-at t) row-walk.Post row-walk-Inv-loop row-walk-μ-loop
+row-walk-row-turn-requires t c κs =
+    let s = c .before .before .before .before .before .before .before .before .before .before in
+    let a = s .args in
+    let sc = schemaOf (a .schema .now) in
+    let rn : c .before .before .before .before .before .before .before .rows .result ≡ tableOf sc (keyOf sc (a .k) .child) .rows = c .before .before .before .before .before .before .before .rows .ensures .0 ∙ ap (λ (u : ℕ). tableOf sc u .rows) (c .before .before .before .before .before .before .before .before .child .ensures .0) in
+    let l = c .before .before .before .before .before .before .loop in
+    let f = c .before .before .before .next-taken .ensures in
+    let lt : c .before .before .before .next-taken .result < c .before .before .before .before .before .before .before .rows .result = omega (arith, c .before .before .if1 .left) in
+    (search needs, (record { tallied = tallied-after (s .pre .1 .0) (l .inv .1 .1 .0); table = c .before .before .before .before .before .before .before .before .child .ensures .1; row = omega (arith, lt, c .before .before .before .before .before .before .before .rows .ensures .0) }, record { accepted = s .pre .1 .0 .ready .accepted; key = s .pre .1 .1; child = c .before .before .before .before .before .before .before .before .child .ensures .0 }))
+
+row-walk-enum-told : (t : ℕ) → row-walk-lts.Need-enum-told (
+  child-reads.Asked,
+  child-reads.Learnt,
+  rows-reads.Asked,
+  rows-reads.Learnt,
+  next-taken-reads.Asked,
+  next-taken-reads.Learnt,
+  row-turn-below t,
+  row-turn.Post,
+) (row-walk-at t) row-walk.Post row-walk-Inv-loop row-walk-μ-loop
+row-walk-enum-told t c = search needs
+
+row-walk-enum-known-c : (t : ℕ) → row-walk-lts.Need-enum-known-c (
+  child-reads.Asked,
+  child-reads.Learnt,
+  rows-reads.Asked,
+  rows-reads.Learnt,
+  next-taken-reads.Asked,
+  next-taken-reads.Learnt,
+  row-turn-below t,
+  row-turn.Post,
+) (row-walk-at t) row-walk.Post row-walk-Inv-loop row-walk-μ-loop
+row-walk-enum-known-c t c = search needs
+
+row-walk-same-length-2 : (t : ℕ) → row-walk-lts.Need-same-length-2 (
+  child-reads.Asked,
+  child-reads.Learnt,
+  rows-reads.Asked,
+  rows-reads.Learnt,
+  next-taken-reads.Asked,
+  next-taken-reads.Learnt,
+  row-turn-below t,
+  row-turn.Post,
+) (row-walk-at t) row-walk.Post row-walk-Inv-loop row-walk-μ-loop
+row-walk-same-length-2 t c = search needs
+
+row-walk-returns-2 : (t : ℕ) → row-walk-lts.Need-returns-2 (
+  child-reads.Asked,
+  child-reads.Learnt,
+  rows-reads.Asked,
+  rows-reads.Learnt,
+  next-taken-reads.Asked,
+  next-taken-reads.Learnt,
+  row-turn-below t,
+  row-turn.Post,
+) (row-walk-at t) row-walk.Post row-walk-Inv-loop row-walk-μ-loop
+row-walk-returns-2 t c =
+    let s = c .before .before .before .before .before .before .before .before .before .before .before .before .before .before .before in
+    let a = s .args in
+    let sc = schemaOf (a .schema .now) in
+    let rn : c .before .before .before .before .before .before .before .before .before .before .before .before .rows .result ≡ tableOf sc (keyOf sc (a .k) .child) .rows = c .before .before .before .before .before .before .before .before .before .before .before .before .rows .ensures .0 ∙ ap (λ (u : ℕ). tableOf sc u .rows) (c .before .before .before .before .before .before .before .before .before .before .before .before .before .child .ensures .0) in
+    let l = c .before .before .before .before .before .before .before .before .before .before .before .loop in
+    let f = c .before .before .before .before .before .before .before .before .next-taken .ensures in
+    let lt : c .before .before .before .before .before .before .before .before .next-taken .result < c .before .before .before .before .before .before .before .before .before .before .before .before .rows .result = omega (arith, c .before .before .before .before .before .before .before .if1 .left) in
+    (sym (l .inv .1 .1 .1 ∙ law.rows-refused (change (a .left) sc) sc (a .new) (keyOf sc (a .k)) (a .old) (c .before .before .before .before .before .before .before .before .before .before .before .before .rows .result) (l .j) (c .before .before .before .before .before .before .before .before .next-taken .result) _ (f .low) lt (f .skipped) (f .found (omega (arith, lt, rn))) (c .before .before .before .before .before .before .before .before .before .before .before .before .before .child .result) (c .before .before .before .before .before .before .before .before .before .before .before .before .before .child .ensures .0) _ _ (c .before .before .before .before .row-turn .ensures .0) (c .before .c .given .1)), follows-trans (l .inv .1 .1 .0) (c .before .before .before .before .row-turn .ensures .1))
+
+row-walk-add-j : (t : ℕ) → row-walk-lts.Need-add-j (
+  child-reads.Asked,
+  child-reads.Learnt,
+  rows-reads.Asked,
+  rows-reads.Learnt,
+  next-taken-reads.Asked,
+  next-taken-reads.Learnt,
+  row-turn-below t,
+  row-turn.Post,
+) (row-walk-at t) row-walk.Post row-walk-Inv-loop row-walk-μ-loop
+row-walk-add-j t c = search needs
+
+row-walk-loop-less : (t : ℕ) → row-walk-lts.Need-loop-less (
+  child-reads.Asked,
+  child-reads.Learnt,
+  rows-reads.Asked,
+  rows-reads.Learnt,
+  next-taken-reads.Asked,
+  next-taken-reads.Learnt,
+  row-turn-below t,
+  row-turn.Post,
+) (row-walk-at t) row-walk.Post row-walk-Inv-loop row-walk-μ-loop
+row-walk-loop-less t c = search needs
+
+row-walk-loop-again : (t : ℕ) → row-walk-lts.Need-loop-again (
+  child-reads.Asked,
+  child-reads.Learnt,
+  rows-reads.Asked,
+  rows-reads.Learnt,
+  next-taken-reads.Asked,
+  next-taken-reads.Learnt,
+  row-turn-below t,
+  row-turn.Post,
+) (row-walk-at t) row-walk.Post row-walk-Inv-loop row-walk-μ-loop
+row-walk-loop-again t c =
+    let s = c .before .before .before .before .before .before .before .before .before .before .before .before .before .before in
+    let a = s .args in
+    let sc = schemaOf (a .schema .now) in
+    let rn : c .before .before .before .before .before .before .before .before .before .before .before .rows .result ≡ tableOf sc (keyOf sc (a .k) .child) .rows = c .before .before .before .before .before .before .before .before .before .before .before .rows .ensures .0 ∙ ap (λ (u : ℕ). tableOf sc u .rows) (c .before .before .before .before .before .before .before .before .before .before .before .before .child .ensures .0) in
+    let l = c .before .before .before .before .before .before .before .before .before .before .loop in
+    let f = c .before .before .before .before .before .before .before .next-taken .ensures in
+    let lt : c .before .before .before .before .before .before .before .next-taken .result < c .before .before .before .before .before .before .before .before .before .before .before .rows .result = omega (arith, c .before .before .before .before .before .before .if1 .left) in
+    (omega (arith, lt), (search needs, (follows-trans (l .inv .1 .1 .0) (c .before .before .before .row-turn .ensures .1), l .inv .1 .1 .1 ∙ law.rows-done (change (a .left) sc) sc (a .new) (keyOf sc (a .k)) (a .old) (c .before .before .before .before .before .before .before .before .before .before .before .rows .result) (l .j) (c .before .before .before .before .before .before .before .next-taken .result) _ (f .low) lt (f .skipped) (f .found (omega (arith, lt, rn))) (c .before .before .before .before .before .before .before .before .before .before .before .before .child .result) (c .before .before .before .before .before .before .before .before .before .before .before .before .child .ensures .0) _ _ (c .before .before .before .row-turn .ensures .0) (c .enum-told .given .1))))
+
+row-walk-same-length-3 : (t : ℕ) → row-walk-lts.Need-same-length-3 (
+  child-reads.Asked,
+  child-reads.Learnt,
+  rows-reads.Asked,
+  rows-reads.Learnt,
+  next-taken-reads.Asked,
+  next-taken-reads.Learnt,
+  row-turn-below t,
+  row-turn.Post,
+) (row-walk-at t) row-walk.Post row-walk-Inv-loop row-walk-μ-loop
+row-walk-same-length-3 t c = search needs
+
+row-walk-returns-3 : (t : ℕ) → row-walk-lts.Need-returns-3 (
+  child-reads.Asked,
+  child-reads.Learnt,
+  rows-reads.Asked,
+  rows-reads.Learnt,
+  next-taken-reads.Asked,
+  next-taken-reads.Learnt,
+  row-turn-below t,
+  row-turn.Post,
+) (row-walk-at t) row-walk.Post row-walk-Inv-loop row-walk-μ-loop
+row-walk-returns-3 t c = let l = c .before .loop in (sym (l .inv .1 .1 .1 ∙ law.rows-none _ _ _ _ _ _ _ _ (omega (arith, c .loop-test .left))), l .inv .1 .1 .0)
+
+pub +key-turn+key-walk+row-change+row-turn+row-walk-spec : {M : Type 1} → statement M
++key-turn+key-walk+row-change+row-turn+row-walk-spec =
+    close μ-key-turn μ-key-walk μ-row-change μ-row-turn μ-row-walk (λ t. key-turn-lts.spec (
+      fires-reads.Asked,
+      fires-reads.Learnt,
+      row-walk-below t,
+      row-walk.Post,
+    )
+    (key-turn-at t)
+    key-turn.Post
+    (key-turn-fires-requires t)
+    (key-turn-returns t)
+    (key-turn-row-walk-requires t)
+    (key-turn-same-length t)
+    (key-turn-returns-2 t))
+    (λ t. key-walk-lts.spec (
+      key-count-reads.Asked,
+      key-count-reads.Learnt,
+      key-turn-below t,
+      key-turn.Post,
+    )
+    (key-walk-at t)
+    key-walk.Post
+    key-walk-Inv-loop
+    key-walk-μ-loop
+    (key-walk-key-count-requires t)
+    (key-walk-loop-holds t)
+    (key-walk-key-turn-requires t)
+    (key-walk-enum-told t)
+    (key-walk-enum-known-c t)
+    (key-walk-same-length t)
+    (key-walk-returns t)
+    (key-walk-add-k t)
+    (key-walk-loop-less t)
+    (key-walk-loop-again t)
+    (key-walk-same-length-2 t)
+    (key-walk-returns-2 t))
+    (λ t. row-change-lts.spec (
+      admits-reads.Asked,
+      admits-reads.Learnt,
+      write-tallied-reads.Asked,
+      write-tallied-reads.Learnt,
+      key-walk-below t,
+      key-walk.Post,
+    )
+    (row-change-at t)
+    row-change.Post
+    (row-change-returns t)
+    (row-change-admits-requires t)
+    (row-change-enum-known-c t)
+    (row-change-enum-told t)
+    (row-change-write-tallied-requires t)
+    (row-change-sub-key-walk t)
+    (row-change-key-walk-requires t)
+    (row-change-same-length t)
+    (row-change-returns-2 t)
+    (row-change-same-length-2 t)
+    (row-change-returns-3 t))
+    (λ t. row-turn-lts.spec (
+      action-of-reads.Asked,
+      action-of-reads.Learnt,
+      child-after-reads.Asked,
+      child-after-reads.Learnt,
+      row-change-below t,
+      row-change.Post,
+    )
+    (row-turn-at t)
+    row-turn.Post
+    (row-turn-action-of-requires t)
+    (row-turn-enum-told t)
+    (row-turn-enum-told-2 t)
+    (row-turn-enum-told-3 t)
+    (row-turn-child-after-requires t)
+    (row-turn-row-change-requires t)
+    (row-turn-enum-told-4 t)
+    (row-turn-child-after-requires-2 t)
+    (row-turn-row-change-requires-2 t)
+    (row-turn-enum-told-5 t)
+    (row-turn-child-after-requires-3 t)
+    (row-turn-row-change-requires-3 t)
+    (row-turn-returns t)
+    (row-turn-returns-2 t)
+    (row-turn-same-length t)
+    (row-turn-returns-3 t)
+    (row-turn-same-length-2 t)
+    (row-turn-returns-4 t)
+    (row-turn-same-length-3 t)
+    (row-turn-returns-5 t))
+    λ t. row-walk-lts.spec (
+      child-reads.Asked,
+      child-reads.Learnt,
+      rows-reads.Asked,
+      rows-reads.Learnt,
+      next-taken-reads.Asked,
+      next-taken-reads.Learnt,
+      row-turn-below t,
+      row-turn.Post,
+    )
+    (row-walk-at t)
+    row-walk.Post
+    row-walk-Inv-loop
+    row-walk-μ-loop
+    (row-walk-child-requires t)
+    (row-walk-rows-requires t)
+    (row-walk-loop-holds t)
+    (row-walk-next-taken-requires t)
+    (row-walk-same-length t)
+    (row-walk-returns t)
+    (row-walk-row-turn-requires t)
+    (row-walk-enum-told t)
+    (row-walk-enum-known-c t)
+    (row-walk-same-length-2 t)
+    (row-walk-returns-2 t)
+    (row-walk-add-j t)
+    (row-walk-loop-less t)
+    (row-walk-loop-again t)
+    (row-walk-same-length-3 t)
+    (row-walk-returns-3 t)

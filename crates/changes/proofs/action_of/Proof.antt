@@ -1,0 +1,28 @@
+use mathlib.Core.Path.{sym, _∙_}
+use Prim.Native.Nat.{_-_}
+use Rattle.schema.specs.Fields.{schemaOf}
+use Rattle.schema.specs.Records.{keyOf}
+use Rattle.changes.proofs.LeafLaws as law
+use borrow.Author.Needs.{needs}
+use Rattle.changes.proofs.action_of.Statement.{statement}
+use Rattle.changes.proofs.action_of.Tie as tie
+
+image-live-requires : tie.Need-image-live-requires
+image-live-requires c κs = search needs
+
+on-update-requires : tie.Need-on-update-requires
+on-update-requires c κs = search needs
+
+returns : tie.Need-returns
+returns c = c .on-update .ensures ∙ law.action-update (c .before .before .before .before .args .new) (keyOf (schemaOf (c .before .before .before .before .args .schema .now)) (c .before .before .before .before .args .k)) (sym (c .before .before .image-live .ensures) ∙ c .before .if1 .taken)
+
+on-delete-requires : tie.Need-on-delete-requires
+on-delete-requires c κs = search needs
+
+returns-2 : tie.Need-returns-2
+returns-2 c = c .on-delete .ensures ∙ law.action-delete (c .before .before .before .before .args .new) (keyOf (schemaOf (c .before .before .before .before .args .schema .now)) (c .before .before .before .before .args .k)) (sym (c .before .before .image-live .ensures) ∙ c .before .if1 .left)
+
+pub action-of-spec : {M : Type 1} → statement M
+action-of-spec =
+    tie.close
+    (tie.spec image-live-requires on-update-requires returns on-delete-requires returns-2)

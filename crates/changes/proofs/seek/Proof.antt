@@ -1,0 +1,61 @@
+use borrow.Author.Needs.{needs}
+use mathlib.Core.Path.{_≡_, sym, _∙_}
+use mathlib.Core.Bool.{false}
+use Prim.Native.Nat.{ℕ, _-_, _<_, _≤_}
+use native.Mathlib.Omega.{arith}
+use lib.ListN.{take}
+use Rattle.rows.specs.Standing.{rowsIn}
+use Rattle.rows.proofs.TableLaws.{rowsFrom, row-at}
+use Rattle.changes.specs.Turns.{keyMatch}
+use Rattle.changes.proofs.LeafLaws as law
+use Rattle.changes.proofs.seek.Statement.{statement}
+use Rattle.changes.proofs.seek.Tie as tie
+
+abbrev Inv-loop : tie.InvT-loop
+Inv-loop area old n cs ps from start w rows j₀ j = (from ≤ j) × ((j ≤ rows) × ((i : ℕ) → from ≤ i → i < j → keyMatch (take n cs) (take n ps) old (rowsIn area (rowsFrom start w rows)) i ≡ false))
+
+abbrev μ-loop : tie.MeasureT-loop
+μ-loop area old n cs ps from start w rows j₀ j = rows - j
+
+loop-holds : tie.Need-loop-holds Inv-loop μ-loop
+loop-holds c = (search needs, (search needs, λ i l h. absurd (omega arith)))
+
+mul-has-key : tie.Need-mul-has-key Inv-loop μ-loop
+mul-has-key c = let h = row-at (c .before .before .args .area .now) (c .before .before .args .table) (c .before .loop .j) (c .loop-test .taken) (c .before .before .pre .0) in omega (arith, h .within)
+
+add-has-key : tie.Need-add-has-key Inv-loop μ-loop
+add-has-key c = let h = row-at (c .before .before .args .area .now) (c .before .before .args .table) (c .before .loop .j) (c .loop-test .taken) (c .before .before .pre .0) in omega (arith, h .within)
+
+has-key-requires : tie.Need-has-key-requires Inv-loop μ-loop
+has-key-requires c κs = (row-at (c .before .before .args .area .now) (c .before .before .args .table) (c .before .loop .j) (c .loop-test .taken) (c .before .before .pre .0), c .before .before .pre .1 .0)
+
+returns : tie.Need-returns Inv-loop μ-loop
+returns c = law.first-stop (c .before .before .before .loop .j) (c .before .before .before .loop .inv .0) (c .before .before .loop-test .taken) (c .before .before .before .loop .inv .1 .1) (sym (c .before .has-key .ensures ∙ law.match-is (c .before .before .before .before .args .area .now) (c .before .before .before .before .args .table) _ _ (c .before .before .before .before .args .old .now) (c .before .before .before .loop .j) (c .before .before .loop-test .taken)) ∙ c .if1 .taken)
+
+add-j : tie.Need-add-j Inv-loop μ-loop
+add-j c = search needs
+
+loop-less : tie.Need-loop-less Inv-loop μ-loop
+loop-less c = search needs
+
+loop-again : tie.Need-loop-again Inv-loop μ-loop
+loop-again c = (omega (arith, c .before .before .before .loop .inv .0), (omega (arith, c .before .before .loop-test .taken), law.skip-more (c .before .before .before .loop .j) (c .before .before .before .loop .inv .1 .1) (sym (law.match-is (c .before .before .before .before .args .area .now) (c .before .before .before .before .args .table) _ _ (c .before .before .before .before .args .old .now) (c .before .before .before .loop .j) (c .before .before .loop-test .taken)) ∙ sym (c .before .has-key .ensures) ∙ c .if1 .left)))
+
+returns-2 : tie.Need-returns-2 Inv-loop μ-loop
+returns-2 c = law.first-none (c .before .loop .j) (c .before .loop .inv .0) (omega (arith, c .loop-test .left)) (c .before .loop .inv .1 .0) (c .before .loop .inv .1 .1)
+
+pub seek-spec : {M : Type 1} → statement M
+seek-spec =
+    tie.close
+    (tie.spec
+    Inv-loop
+    μ-loop
+    loop-holds
+    mul-has-key
+    add-has-key
+    has-key-requires
+    returns
+    add-j
+    loop-less
+    loop-again
+    returns-2)

@@ -1,0 +1,46 @@
+use Prim.Native.Nat.{_-_}
+use native.Mathlib.Omega.{arith}
+use Rattle.bridge.proofs.HoldLaws.{area-long}
+use Rattle.statements.proofs.Ends as ends
+use borrow.Author.Needs.{needs}
+use Rattle.statements.proofs.write_kept.Statement.{statement}
+use Rattle.statements.proofs.write_kept.Tie as tie
+
+put-numbers-requires : tie.Need-put-numbers-requires
+put-numbers-requires c κs = omega (arith, area-long (c .before .before .pre .fit))
+
+nat-at-requires : tie.Need-nat-at-requires
+nat-at-requires c κs = omega (arith, area-long (c .before .before .before .before .before .pre .fit), c .before .before .put-numbers .kept .0)
+
+same-length : tie.Need-same-length
+same-length c = search needs
+
+returns : tie.Need-returns
+returns c =
+    let s = c .before .before .before .before .before .before .before in
+    ends.written-inside (s .pre .fit) (s .args .kept) (search needs) (c .before .before .before .before .put-numbers .ensures) (c .before .nat-at .ensures) (c .if1 .taken)
+
+empty-journal-requires : tie.Need-empty-journal-requires
+empty-journal-requires c κs =
+    let s = c .before .before .before .before .before .before .before .before in
+    record { accepted = s .pre .accepted; fit = ends.kept-holds (s .pre .fit) (s .args .kept) (search needs) (c .before .before .before .before .before .put-numbers .ensures) .fit }
+
+same-length-2 : tie.Need-same-length-2
+same-length-2 c = search needs
+
+returns-2 : tie.Need-returns-2
+returns-2 c =
+    let s = c .before .before .before .before .before .before .before .before .before .before in
+    ends.written-outside (s .pre .fit) (s .args .kept) (search needs) (c .before .before .before .before .before .before .before .put-numbers .ensures) (c .before .before .before .before .nat-at .ensures) (c .before .before .before .if1 .left) (c .before .empty-journal .ensures)
+
+pub write-kept-spec : {M : Type 1} → statement M
+write-kept-spec =
+    tie.close
+    (tie.spec
+    put-numbers-requires
+    nat-at-requires
+    same-length
+    returns
+    empty-journal-requires
+    same-length-2
+    returns-2)
