@@ -1,8 +1,6 @@
 // A statement: a row change with its actions, and its end, where the kept numbers are settled.
 ghost use mathlib.Core.Path.{_≡_};
-ghost use mathlib.Core.Bool.{Bool};
 ghost use Prim.Native.Nat.{_<_};
-ghost use lib.IntN.{ℤ};
 ghost use lib.ListN.{length};
 ghost use Rattle.schema.specs.Check.{checkSchema};
 ghost use Rattle.schema.specs.Fields.{schemaOf};

@@ -1,0 +1,46 @@
+use mathlib.Core.Path.{sym, _∙_}
+use borrow.Author.Needs.{needs}
+use Rattle.engine.proofs.CallLaws as law
+use Rattle.engine.proofs.call.Statement.{statement}
+use Rattle.engine.proofs.call.Tie as tie
+
+check-schema-requires : tie.Need-check-schema-requires
+check-schema-requires c κs = search needs
+
+enum-told : tie.Need-enum-told
+enum-told c = search needs
+
+enum-told-2 : tie.Need-enum-told-2
+enum-told-2 c = search needs
+
+enum-told-3 : tie.Need-enum-told-3
+enum-told-3 c = search needs
+
+call-area-requires : tie.Need-call-area-requires
+call-area-requires c κs = sym (c .before .before .before .check-schema .ensures) ∙ c .before .enum-told3 .given .1
+
+returns : tie.Need-returns
+returns c = law.call-malformed (c .before .before .before .before .args .schema .now) (c .before .before .before .before .args .area .now) _ (c .before .before .check-schema .ensures) (c .before .before .before .before .args .call .now) (c .enum-told .given .1)
+
+returns-2 : tie.Need-returns-2
+returns-2 c = law.call-unmatched (c .before .before .before .before .args .schema .now) (c .before .before .before .before .args .area .now) _ (c .before .before .check-schema .ensures) (c .before .before .before .before .args .call .now) (c .enum-told2 .given .1)
+
+same-length : tie.Need-same-length
+same-length c = search needs
+
+returns-3 : tie.Need-returns-3
+returns-3 c = c .before .call-area .ensures ∙ law.call-under (c .before .before .before .before .before .before .before .args .schema .now) (c .before .before .before .before .before .before .before .args .area .now) _ (c .before .before .before .before .before .check-schema .ensures) (c .before .before .before .before .before .before .before .args .call .now) (c .before .before .before .enum-told3 .given .1)
+
+pub call-spec : {M : Type 1} → statement M
+call-spec =
+    tie.close
+    (tie.spec
+    check-schema-requires
+    enum-told
+    enum-told-2
+    enum-told-3
+    call-area-requires
+    returns
+    returns-2
+    same-length
+    returns-3)

@@ -1,0 +1,56 @@
+use mathlib.Core.Path.{sym, _∙_}
+use borrow.Author.Tests.{not-true, not-false}
+use borrow.Author.Needs.{needs}
+use Rattle.schema.specs.Fields.{schemaOf}
+use Rattle.engine.proofs.CallLaws as law
+use Rattle.engine.proofs.call_area.Statement.{statement}
+use Rattle.engine.proofs.call_area.Tie as tie
+
+area-length-requires : tie.Need-area-length-requires
+area-length-requires c κs = search needs
+
+returns : tie.Need-returns
+returns c = law.wrong-length (schemaOf (c .before .before .before .args .schema .now)) (c .before .before .before .args .call .now) (c .before .before .before .args .area .now) (λ z. c .if1 .taken (z ∙ sym (c .before .area-length .ensures .0)))
+
+read-call-requires : tie.Need-read-call-requires
+read-call-requires c κs = search needs
+
+is-refused-requires : tie.Need-is-refused-requires
+is-refused-requires c κs = search needs
+
+returns-2 : tie.Need-returns-2
+returns-2 c = law.bad-call (schemaOf (c .before .before .before .before .before .before .args .schema .now)) (c .before .before .before .before .before .before .args .call .now) (c .before .before .before .before .before .before .args .area .now) (c .before .before .before .if1 .left ∙ c .before .before .before .before .area-length .ensures .0) (law.read-refused (schemaOf (c .before .before .before .before .before .before .args .schema .now)) (c .before .before .before .before .before .before .args .call .now) (c .before .before .read-call .result) (c .before .before .read-call .ensures) (sym (c .before .is-refused .ensures) ∙ c .if2 .taken))
+
+is-undamaged-requires : tie.Need-is-undamaged-requires
+is-undamaged-requires c κs = (c .before .before .before .before .before .before .before .pre, (c .before .before .before .before .if1 .left ∙ c .before .before .before .before .before .area-length .ensures .0))
+
+same-length : tie.Need-same-length
+same-length c = search needs
+
+returns-3 : tie.Need-returns-3
+returns-3 c = law.damaged (schemaOf (c .before .before .before .before .before .before .before .before .before .args .schema .now)) (c .before .before .before .before .before .before .before .before .before .args .call .now) (c .before .before .before .before .before .before .before .before .before .args .area .now) (c .before .before .before .before .before .before .if1 .left ∙ c .before .before .before .before .before .before .before .area-length .ensures .0) ((law.read-call (schemaOf (c .before .before .before .before .before .before .before .before .before .args .schema .now)) (c .before .before .before .before .before .before .before .before .before .args .call .now) (c .before .before .before .before .before .read-call .result) (c .before .before .before .before .before .read-call .ensures) (sym (c .before .before .before .before .is-refused .ensures) ∙ c .before .before .before .if2 .left)) .allowed-is) (sym (c .before .is-undamaged .ensures) ∙ not-true _ (c .if3 .taken))
+
+carry-out-requires : tie.Need-carry-out-requires
+carry-out-requires c κs = (law.sound-area (c .before .before .before .before .before .before .before .before .before .before .args .schema .now) (c .before .before .before .before .before .before .before .before .before .before .args .area .now) (c .before .before .before .before .before .before .before .before .before .before .pre) (c .before .before .before .before .before .before .before .if1 .left ∙ c .before .before .before .before .before .before .before .before .area-length .ensures .0) (sym (c .before .before .is-undamaged .ensures) ∙ not-false _ (c .before .if3 .left)), c .before .before .before .before .before .before .read-call .ensures)
+
+same-length-2 : tie.Need-same-length-2
+same-length-2 c = search needs
+
+returns-4 : tie.Need-returns-4
+returns-4 c = let h = law.sound-area (c .before .before .before .before .before .before .before .before .before .before .before .before .args .schema .now) (c .before .before .before .before .before .before .before .before .before .before .before .before .args .area .now) (c .before .before .before .before .before .before .before .before .before .before .before .before .pre) (c .before .before .before .before .before .before .before .before .before .if1 .left ∙ c .before .before .before .before .before .before .before .before .before .before .area-length .ensures .0) (sym (c .before .before .before .before .is-undamaged .ensures) ∙ not-false _ (c .before .before .before .if3 .left)) in c .before .carry-out .ensures ∙ law.carried (schemaOf (c .before .before .before .before .before .before .before .before .before .before .before .before .args .schema .now)) (c .before .before .before .before .before .before .before .before .before .before .before .before .args .call .now) (c .before .before .before .before .before .before .before .before .before .before .before .before .args .area .now) (c .before .before .before .before .before .before .before .before .before .if1 .left ∙ c .before .before .before .before .before .before .before .before .before .before .area-length .ensures .0) (law.read-call (schemaOf (c .before .before .before .before .before .before .before .before .before .before .before .before .args .schema .now)) (c .before .before .before .before .before .before .before .before .before .before .before .before .args .call .now) (c .before .before .before .before .before .before .before .before .read-call .result) (c .before .before .before .before .before .before .before .before .read-call .ensures) (sym (c .before .before .before .before .before .before .before .is-refused .ensures) ∙ c .before .before .before .before .before .before .if2 .left)) (h .ready .fit .legible-is) (h .undamaged-is)
+
+pub call-area-spec : {M : Type 1} → statement M
+call-area-spec =
+    tie.close
+    (tie.spec
+    area-length-requires
+    returns
+    read-call-requires
+    is-refused-requires
+    returns-2
+    is-undamaged-requires
+    same-length
+    returns-3
+    carry-out-requires
+    same-length-2
+    returns-4)

@@ -1,0 +1,19 @@
+use mathlib.Core.Path.{_∙_}
+use borrow.Author.Needs.{needs}
+use Rattle.schema.specs.Fields.{schemaOf}
+use Rattle.bridge.specs.Fit.{workOf}
+use Rattle.engine.proofs.CallLaws as law
+use Rattle.engine.proofs.is_live_row.Statement.{statement}
+use Rattle.engine.proofs.is_live_row.Tie as tie
+
+image-of-requires : tie.Need-image-of-requires
+image-of-requires c κs = search needs
+
+image-live-requires : tie.Need-image-live-requires
+image-live-requires c κs = search needs
+
+returns : tie.Need-returns
+returns c = c .image-live .ensures ∙ law.row-live (c .before .before .before .args .t) (c .before .before .before .args .r) (workOf (schemaOf (c .before .before .before .args .schema .now)) (c .before .before .before .args .area .now) .tabs) (c .before .image-of .ensures)
+
+pub is-live-row-spec : {M : Type 1} → statement M
+is-live-row-spec = tie.close (tie.spec image-of-requires image-live-requires returns)

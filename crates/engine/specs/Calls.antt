@@ -1,0 +1,43 @@
+-- What the functions under a call require, and what refuses a request.
+-- Assumes nothing.
+use mathlib.Core.Path.{_≡_}
+use mathlib.Core.Bool.{Bool, true, false}
+use mathlib.Core.List.{List}
+use Prim.Native.Nat.{ℕ, _<_}
+use lib.Dec.{eqb}
+use lib.IntN.{ℤ}
+use lib.ListN.{length}
+use Rattle.schema.specs.Records.{Schema, tableOf}
+use Rattle.schema.specs.Sizes.{areaSize}
+use Rattle.schema.specs.Fields.{schemaOf}
+use Rattle.rules.specs.declared.Answer.the-variants.{Done}
+use Rattle.rules.specs.declared.Refusal.the-variants.{WrongLength}
+use Rattle.rules.specs.Lists.{𝟘}
+use Rattle.rules.specs.Area.{AreaTurn, ensure, freshWords}
+use Rattle.bridge.specs.Ready.{Sound}
+use Rattle.call_form.specs.declared.Request.{Request}
+use Rattle.call_form.specs.declared.Request.the-variants.{Malformed, Insert, Update, Delete, Begin, Savepoint, Release, RollbackTo, Rollback, Commit}
+
+-- an insertion or an update of row r of table t, in a sound area
+pub record RowCall (b : List ℕ) (a c : List ℤ) (t r : ℕ) : Type 0 where
+  pub sound : Sound b a
+  pub table : t < length (schemaOf b .tables)
+  pub row : r < tableOf (schemaOf b) t .rows
+  pub size : length c ≡ 12
+
+-- refusal 4
+unfoldable pub isRefused : Request → Bool
+isRefused Malformed = true
+isRefused (Insert t r) = false
+isRefused (Update t r) = false
+isRefused (Delete t r) = false
+isRefused Begin = false
+isRefused Savepoint = false
+isRefused (Release a) = false
+isRefused (RollbackTo a) = false
+isRefused Rollback = false
+isRefused Commit = false
+
+-- make fresh, under an accepted schema
+unfoldable pub freshArea : Schema → List ℤ → AreaTurn
+freshArea s ws = ensure (eqb (length ws) (areaSize s)) WrongLength (λ ws. (Done 0 𝟘, freshWords s)) ws
