@@ -46,8 +46,8 @@ module _ (w : Work) (e : Entry) (x : List ℤ) (spare : List (List ℤ)) (room :
   more = rw room (simp (length-append, length-map, length-reverse) (omega arith))
 
   flat-push : length (entryWords e) ≡ length x → flat (records (pushed e spare w)) ≡ splice (length (flat (take (length (w .used)) (records w)))) (entryWords e) (flat (records w))
-  flat-push sameValue =
-      ap flat records-push ∙ flat-set (records w) (length (w .used)) (entryWords e) more (sameValue ∙ ap length (sym next-record))
+  flat-push same =
+      ap flat records-push ∙ flat-set (records w) (length (w .used)) (entryWords e) more (same ∙ ap length (sym next-record))
 
 -- records of one size
 pub flat-sized : (k r : ℕ) (xss : List (List ℤ)) → all (λ xs. eqb (length xs) k) xss ≡ true → r ≤ length xss → length (flat (take r xss)) ≡ r * k

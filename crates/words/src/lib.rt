@@ -27,7 +27,7 @@ pub fn word_of(n: usize) -> i64
     n as i64
 }
 
-// Whether two words are the sameValue number.
+// Whether two words are the same number.
 pub fn same_word(a: i64, b: i64) -> bool
     ensures { λ r. ⌜ r ≡ sameValue a b ⌝ }
 {
