@@ -27,6 +27,7 @@ fn open_next(schema: &[u8], area: &mut [i64], opener: usize)
     area[1] = words::word_of(opener);
 }
 
+// Kind 4: begin.
 pub fn begin(schema: &[u8], area: &mut [i64]) -> Answer
     requires { ⌜ Ready (now schema) (now area) ⌝ }
     ensures { λ r. ⌜ (r, now (area .exit)) ≡ onWords (Step.act (schemaOf (now (schema .entry))) Calls.begin (view (schemaOf (now (schema .entry))) (now (area .entry)))) ⌝ }
@@ -49,6 +50,7 @@ fn opener_of(area: &[i64], n: usize) -> usize
     words::nat_at(area, 1)
 }
 
+// Kind 5: savepoint; outside a transaction it opens one.
 pub fn savepoint(schema: &[u8], area: &mut [i64]) -> Answer
     requires { ⌜ Sound (now schema) (now area) ⌝ }
     ensures { λ r. ⌜ (r, now (area .exit)) ≡ onWords (Step.act (schemaOf (now (schema .entry))) Calls.savepoint (view (schemaOf (now (schema .entry))) (now (area .entry)))) ⌝ }
@@ -86,6 +88,7 @@ fn commit_now(schema: &[u8], area: &mut [i64]) -> Answer
     Answer::Done(0, 0)
 }
 
+// Kind 9: commit.
 pub fn commit(schema: &[u8], area: &mut [i64]) -> Answer
     requires { ⌜ Ready (now schema) (now area) ⌝ }
     ensures { λ r. ⌜ (r, now (area .exit)) ≡ onWords (Step.act (schemaOf (now (schema .entry))) Calls.commit (view (schemaOf (now (schema .entry))) (now (area .entry)))) ⌝ }
@@ -106,6 +109,7 @@ fn is_open(schema: &[u8], area: &[i64], a: usize) -> bool
     (a <= n) & !((a == 1) & (opener == 1))
 }
 
+// Kind 6: release of level a; of level 1 opened by a savepoint, a commit.
 pub fn release(schema: &[u8], area: &mut [i64], a: usize) -> Answer
     requires { ⌜ Ready (now schema) (now area) × (1 ≤ a) ⌝ }
     ensures { λ r. ⌜ (r, now (area .exit)) ≡ onWords (Step.act (schemaOf (now (schema .entry))) (Calls.release a) (view (schemaOf (now (schema .entry))) (now (area .entry)))) ⌝ }
@@ -142,6 +146,7 @@ fn back_to(schema: &[u8], area: &mut [i64], i: usize, n: usize, base: usize)
     levels::load_kept(area, i);
 }
 
+// Kind 7: rollback to level a, which stays open.
 pub fn rollback_to(schema: &[u8], area: &mut [i64], a: usize) -> Answer
     requires { ⌜ Sound (now schema) (now area) × (1 ≤ a) ⌝ }
     ensures { λ r. ⌜ (r, now (area .exit)) ≡ onWords (Step.act (schemaOf (now (schema .entry))) (Calls.rollbackTo a) (view (schemaOf (now (schema .entry))) (now (area .entry)))) ⌝ }
@@ -167,6 +172,7 @@ fn abort(schema: &[u8], area: &mut [i64])
     end(schema, area);
 }
 
+// Kind 8: rollback of the transaction.
 pub fn rollback(schema: &[u8], area: &mut [i64]) -> Answer
     requires { ⌜ Sound (now schema) (now area) ⌝ }
     ensures { λ r. ⌜ (r, now (area .exit)) ≡ onWords (Step.act (schemaOf (now (schema .entry))) Calls.rollback (view (schemaOf (now (schema .entry))) (now (area .entry)))) ⌝ }

@@ -134,7 +134,11 @@ key-turn-returns-2 : (t : ℕ) → key-turn-lts.Need-returns-2 (
   row-walk-below t,
   row-walk.Post,
 ) (key-turn-at t) key-turn.Post
-key-turn-returns-2 t c = (c .before .row-walk .ensures .0 ∙ law.key-on _ _ _ _ _ _ _ (sym (c .before .before .before .before .before .fires .ensures) ∙ not-false _ (c .before .before .before .before .if1 .left)), c .before .row-walk .ensures .1)
+key-turn-returns-2 t c =
+    let fires = c .before .before .before .before .before .fires in
+    let if1 = c .before .before .before .before .if1 in
+    let row-walk = c .before .row-walk in
+    (row-walk .ensures .0 ∙ law.key-on _ _ _ _ _ _ _ (sym (fires .ensures) ∙ not-false _ (if1 .left)), row-walk .ensures .1)
 
 abbrev key-walk-Inv-loop : key-walk-lts.InvT-loop
 key-walk-Inv-loop schema area₀ tally₀ t old new left n k₀ area tally k = (k ≤ n) × ((length area ≡ length area₀) × (Follows (schemaOf schema) tally₀ area₀ tally area × (actions (change left (schemaOf schema)) (schemaOf schema) new t old ((schemaOf schema) .keys) (workOf (schemaOf schema) area₀) ≡ actions (change left (schemaOf schema)) (schemaOf schema) new t old (drop k ((schemaOf schema) .keys)) (workOf (schemaOf schema) area))))
@@ -310,7 +314,11 @@ row-change-write-tallied-requires : (t : ℕ) → row-change-lts.Need-write-tall
   key-walk-below t,
   key-walk.Post,
 ) (row-change-at t) row-change.Post
-row-change-write-tallied-requires t c κs = (c .before .before .before .before .before .before .before .before .pre .1, law.change-room _ _ _ _ _ (c .before .before .before .before .before .before .before .before .args .left) (c .before .before .before .before .before .before .if1 .left) _ (c .before .before .before .before .admits .ensures) (c .before .before .enum-told .given .1))
+row-change-write-tallied-requires t c κs =
+    let s = c .before .before .before .before .before .before .before .before in
+    let if1 = c .before .before .before .before .before .before .if1 in
+    let admits = c .before .before .before .before .admits in
+    (s .pre .1, law.change-room _ _ _ _ _ (s .args .left) (if1 .left) _ (admits .ensures) (c .before .before .enum-told .given .1))
 
 row-change-sub-key-walk : (t : ℕ) → row-change-lts.Need-sub-key-walk (
   admits-reads.Asked,
@@ -330,7 +338,9 @@ row-change-key-walk-requires : (t : ℕ) → row-change-lts.Need-key-walk-requir
   key-walk-below t,
   key-walk.Post,
 ) (row-change-at t) row-change.Post
-row-change-key-walk-requires t c κs = (search needs, tallied-after (c .before .before .before .before .before .before .before .before .before .before .before .before .pre .1 .tallied) (c .before .before .before .write-tallied .ensures .1 .1))
+row-change-key-walk-requires t c κs =
+    let write-tallied = c .before .before .before .write-tallied in
+    (search needs, tallied-after (c .before .before .before .before .before .before .before .before .before .before .before .before .pre .1 .tallied) (write-tallied .ensures .1 .1))
 
 row-change-same-length : (t : ℕ) → row-change-lts.Need-same-length (
   admits-reads.Asked,
@@ -350,7 +360,10 @@ row-change-returns-2 : (t : ℕ) → row-change-lts.Need-returns-2 (
   key-walk-below t,
   key-walk.Post,
 ) (row-change-at t) row-change.Post
-row-change-returns-2 t c = (law.change-refused _ _ _ _ _ _ (c .before .before .before .before .before .if1 .left) _ (c .before .before .before .admits .ensures) (c .before .c .given .1), follows-refl (c .before .before .before .before .before .before .before .pre .1 .tallied .ready .fit))
+row-change-returns-2 t c =
+    let if1 = c .before .before .before .before .before .if1 in
+    let admits = c .before .before .before .admits in
+    (law.change-refused _ _ _ _ _ _ (if1 .left) _ (admits .ensures) (c .before .c .given .1), follows-refl (c .before .before .before .before .before .before .before .pre .1 .tallied .ready .fit))
 
 row-change-same-length-2 : (t : ℕ) → row-change-lts.Need-same-length-2 (
   admits-reads.Asked,
@@ -518,7 +531,8 @@ row-turn-returns-2 : (t : ℕ) → row-turn-lts.Need-returns-2 (
   row-change-below t,
   row-change.Post,
 ) (row-turn-at t) row-turn.Post
-row-turn-returns-2 t c = (law.row-restrict _ _ _ _ _ _ _ _ (c .before .before .action-of .ensures) (c .enum-told2 .given .1), follows-refl (c .before .before .before .before .pre .1 .0 .tallied .ready .fit))
+row-turn-returns-2 t c =
+    (law.row-restrict _ _ _ _ _ _ _ _ (c .before .before .action-of .ensures) (c .enum-told2 .given .1), follows-refl (c .before .before .before .before .pre .1 .0 .tallied .ready .fit))
 
 row-turn-same-length : (t : ℕ) → row-turn-lts.Need-same-length (
   action-of-reads.Asked,

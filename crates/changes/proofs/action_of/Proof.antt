@@ -14,13 +14,19 @@ on-update-requires : tie.Need-on-update-requires
 on-update-requires c κs = search needs
 
 returns : tie.Need-returns
-returns c = c .on-update .ensures ∙ law.action-update (c .before .before .before .before .args .new) (keyOf (schemaOf (c .before .before .before .before .args .schema .now)) (c .before .before .before .before .args .k)) (sym (c .before .before .image-live .ensures) ∙ c .before .if1 .taken)
+returns c =
+    let s = c .before .before .before .before in
+    c .on-update .ensures
+    ∙ law.action-update (s .args .new) (keyOf (schemaOf (s .args .schema .now)) (s .args .k)) (sym (c .before .before .image-live .ensures) ∙ c .before .if1 .taken)
 
 on-delete-requires : tie.Need-on-delete-requires
 on-delete-requires c κs = search needs
 
 returns-2 : tie.Need-returns-2
-returns-2 c = c .on-delete .ensures ∙ law.action-delete (c .before .before .before .before .args .new) (keyOf (schemaOf (c .before .before .before .before .args .schema .now)) (c .before .before .before .before .args .k)) (sym (c .before .before .image-live .ensures) ∙ c .before .if1 .left)
+returns-2 c =
+    let s = c .before .before .before .before in
+    c .on-delete .ensures
+    ∙ law.action-delete (s .args .new) (keyOf (schemaOf (s .args .schema .now)) (s .args .k)) (sym (c .before .before .image-live .ensures) ∙ c .before .if1 .left)
 
 pub action-of-spec : {M : Type 1} → statement M
 action-of-spec =

@@ -21,10 +21,18 @@ parent-columns-requires : tie.Need-parent-columns-requires
 parent-columns-requires c κs = search needs
 
 acted-requires : tie.Need-acted-requires
-acted-requires c κs = key-columns (c .before .before .before .before .before .args .schema .now) (c .before .before .before .before .before .pre .1 .accepted) (c .before .before .before .before .before .args .k) (c .before .before .before .before .before .pre .1 .key) (c .before .before .width .ensures .0) (c .parent-columns .result) (c .parent-columns .ensures) (c .before .child-columns .result) (c .before .child-columns .ensures)
+acted-requires c κs =
+    let s = c .before .before .before .before .before in
+    let child-columns = c .before .child-columns in
+    let parent-columns = c .parent-columns in
+    key-columns (s .args .schema .now) (s .pre .1 .accepted) (s .args .k) (s .pre .1 .key) (c .before .before .width .ensures .0) (parent-columns .result) (parent-columns .ensures) (child-columns .result) (child-columns .ensures)
 
 returns : tie.Need-returns
-returns c = c .acted .ensures ∙ ap (actionImage (c .before .before .before .before .before .before .args .action) (schemaOf (c .before .before .before .before .before .before .args .schema .now)) (keyOf (schemaOf (c .before .before .before .before .before .before .args .schema .now)) (c .before .before .before .before .before .before .args .k)) (c .before .before .before .before .before .before .args .new)) (c .before .before .before .before .image-of .ensures)
+returns c =
+    let s = c .before .before .before .before .before .before in
+    let sc = schemaOf (s .args .schema .now) in
+    let image-of = c .before .before .before .before .image-of in
+    c .acted .ensures ∙ ap (actionImage (s .args .action) sc (keyOf sc (s .args .k)) (s .args .new)) (image-of .ensures)
 
 pub child-after-spec : {M : Type 1} → statement M
 child-after-spec =

@@ -21,10 +21,26 @@ parent-columns-requires : tie.Need-parent-columns-requires
 parent-columns-requires c κs = search needs
 
 seek-requires : tie.Need-seek-requires
-seek-requires c κs = (standing (c .before .before .before .before .before .before .before .before .before .args .schema .now) (c .before .before .before .before .before .before .before .before .before .args .area .now) (c .before .before .before .before .before .before .before .before .before .pre .0) (c .before .before .before .before .before .before .before .child .result) (c .before .before .before .before .before .before .before .child .ensures .1) (c .before .before .before .before .before .before .rows-of .result) (c .before .before .before .before .before .before .rows-of .ensures), ((law.child-rows (c .before .before .before .before .before .before .before .before .before .args .schema .now) (c .before .before .before .before .before .before .before .before .before .args .k) (c .before .before .before .before .before .before .before .child .ensures .0) (c .before .before .before .before .before .before .rows-of .ensures) (key-columns (c .before .before .before .before .before .before .before .before .before .args .schema .now) (c .before .before .before .before .before .before .before .before .before .pre .0 .accepted) (c .before .before .before .before .before .before .before .before .before .args .k) (c .before .before .before .before .before .before .before .before .before .pre .1 .0) (c .before .before .before .before .before .width .ensures .0) (c .before .before .before .parent-columns .result) (c .before .before .before .parent-columns .ensures) (c .before .before .before .before .child-columns .result) (c .before .before .before .before .child-columns .ensures)), parent-nine (c .before .before .before .before .before .before .before .before .before .args .schema .now) (c .before .before .before .before .before .before .before .before .before .pre .0 .accepted) (c .before .before .before .before .before .before .before .before .before .args .k) (c .before .before .before .before .before .before .before .before .before .pre .1 .0) (c .before .before .before .before .before .width .ensures .0) (c .before .before .before .parent-columns .result) (c .before .before .before .parent-columns .ensures)), law.from-rows (c .before .before .before .before .before .before .before .before .before .args .schema .now) (c .before .before .before .before .before .before .before .before .before .args .k) (c .before .before .before .before .before .before .before .child .ensures .0) (c .before .before .before .before .before .before .rows-of .ensures) (c .before .before .before .before .before .before .before .before .before .pre .1 .1)))
+seek-requires c κs =
+    let s = c .before .before .before .before .before .before .before .before .before in
+    let b = s .args .schema .now in
+    let child = c .before .before .before .before .before .before .before .child in
+    let rows-of = c .before .before .before .before .before .before .rows-of in
+    let width = c .before .before .before .before .before .width in
+    let child-columns = c .before .before .before .before .child-columns in
+    let parent-columns = c .before .before .before .parent-columns in
+    (standing b (s .args .area .now) (s .pre .0) (child .result) (child .ensures .1) (rows-of .result) (rows-of .ensures), ((law.child-rows b (s .args .k) (child .ensures .0) (rows-of .ensures) (key-columns b (s .pre .0 .accepted) (s .args .k) (s .pre .1 .0) (width .ensures .0) (parent-columns .result) (parent-columns .ensures) (child-columns .result) (child-columns .ensures)), parent-nine b (s .pre .0 .accepted) (s .args .k) (s .pre .1 .0) (width .ensures .0) (parent-columns .result) (parent-columns .ensures)), law.from-rows b (s .args .k) (child .ensures .0) (rows-of .ensures) (s .pre .1 .1)))
 
 returns : tie.Need-returns
-returns c = law.taken-first (c .before .before .before .before .before .before .before .before .before .before .args .schema .now) (c .before .before .before .before .before .before .before .before .before .before .args .area .now) (c .before .before .before .before .before .before .before .before .before .before .args .k) (c .before .before .before .before .before .before .width .result) (c .before .before .before .before .before .child-columns .result) (c .before .before .before .before .parent-columns .result) (c .before .before .before .before .before .before .before .before .child .result) (c .before .before .before .before .before .before .before .rows-of .result) (c .before .before .before .before .before .before .before .before .before .before .args .t4) (c .before .before .before .before .before .before .before .before .before .before .pre .0) (c .before .before .before .before .before .before .before .before .child .ensures .1) (c .before .before .before .before .before .before .before .before .child .ensures .0) (c .before .before .before .before .before .before .before .rows-of .ensures) (key-columns (c .before .before .before .before .before .before .before .before .before .before .args .schema .now) (c .before .before .before .before .before .before .before .before .before .before .pre .0 .accepted) (c .before .before .before .before .before .before .before .before .before .before .args .k) (c .before .before .before .before .before .before .before .before .before .before .pre .1 .0) (c .before .before .before .before .before .before .width .ensures .0) (c .before .before .before .before .parent-columns .result) (c .before .before .before .before .parent-columns .ensures) (c .before .before .before .before .before .child-columns .result) (c .before .before .before .before .before .child-columns .ensures)) (c .seek .ensures)
+returns c =
+    let s = c .before .before .before .before .before .before .before .before .before .before in
+    let b = s .args .schema .now in
+    let child = c .before .before .before .before .before .before .before .before .child in
+    let rows-of = c .before .before .before .before .before .before .before .rows-of in
+    let width = c .before .before .before .before .before .before .width in
+    let child-columns = c .before .before .before .before .before .child-columns in
+    let parent-columns = c .before .before .before .before .parent-columns in
+    law.taken-first b (s .args .area .now) (s .args .k) (width .result) (child-columns .result) (parent-columns .result) (child .result) (rows-of .result) (s .args .t4) (s .pre .0) (child .ensures .1) (child .ensures .0) (rows-of .ensures) (key-columns b (s .pre .0 .accepted) (s .args .k) (s .pre .1 .0) (width .ensures .0) (parent-columns .result) (parent-columns .ensures) (child-columns .result) (child-columns .ensures)) (c .seek .ensures)
 
 pub next-taken-spec : {M : Type 1} → statement M
 next-taken-spec =

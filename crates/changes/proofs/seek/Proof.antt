@@ -21,16 +21,28 @@ loop-holds : tie.Need-loop-holds Inv-loop μ-loop
 loop-holds c = (search needs, (search needs, λ i l h. absurd (omega arith)))
 
 mul-has-key : tie.Need-mul-has-key Inv-loop μ-loop
-mul-has-key c = let h = row-at (c .before .before .args .area .now) (c .before .before .args .table) (c .before .loop .j) (c .loop-test .taken) (c .before .before .pre .0) in omega (arith, h .within)
+mul-has-key c =
+    let s = c .before .before in
+    let h = row-at (s .args .area .now) (s .args .table) (c .before .loop .j) (c .loop-test .taken) (s .pre .0) in
+    omega (arith, h .within)
 
 add-has-key : tie.Need-add-has-key Inv-loop μ-loop
-add-has-key c = let h = row-at (c .before .before .args .area .now) (c .before .before .args .table) (c .before .loop .j) (c .loop-test .taken) (c .before .before .pre .0) in omega (arith, h .within)
+add-has-key c =
+    let s = c .before .before in
+    let h = row-at (s .args .area .now) (s .args .table) (c .before .loop .j) (c .loop-test .taken) (s .pre .0) in
+    omega (arith, h .within)
 
 has-key-requires : tie.Need-has-key-requires Inv-loop μ-loop
-has-key-requires c κs = (row-at (c .before .before .args .area .now) (c .before .before .args .table) (c .before .loop .j) (c .loop-test .taken) (c .before .before .pre .0), c .before .before .pre .1 .0)
+has-key-requires c κs =
+    let s = c .before .before in
+    (row-at (s .args .area .now) (s .args .table) (c .before .loop .j) (c .loop-test .taken) (s .pre .0), s .pre .1 .0)
 
 returns : tie.Need-returns Inv-loop μ-loop
-returns c = law.first-stop (c .before .before .before .loop .j) (c .before .before .before .loop .inv .0) (c .before .before .loop-test .taken) (c .before .before .before .loop .inv .1 .1) (sym (c .before .has-key .ensures ∙ law.match-is (c .before .before .before .before .args .area .now) (c .before .before .before .before .args .table) _ _ (c .before .before .before .before .args .old .now) (c .before .before .before .loop .j) (c .before .before .loop-test .taken)) ∙ c .if1 .taken)
+returns c =
+    let s = c .before .before .before .before in
+    let loop = c .before .before .before .loop in
+    let loop-test = c .before .before .loop-test in
+    law.first-stop (loop .j) (loop .inv .0) (loop-test .taken) (loop .inv .1 .1) (sym (c .before .has-key .ensures ∙ law.match-is (s .args .area .now) (s .args .table) _ _ (s .args .old .now) (loop .j) (loop-test .taken)) ∙ c .if1 .taken)
 
 add-j : tie.Need-add-j Inv-loop μ-loop
 add-j c = search needs
@@ -39,7 +51,11 @@ loop-less : tie.Need-loop-less Inv-loop μ-loop
 loop-less c = search needs
 
 loop-again : tie.Need-loop-again Inv-loop μ-loop
-loop-again c = (omega (arith, c .before .before .before .loop .inv .0), (omega (arith, c .before .before .loop-test .taken), law.skip-more (c .before .before .before .loop .j) (c .before .before .before .loop .inv .1 .1) (sym (law.match-is (c .before .before .before .before .args .area .now) (c .before .before .before .before .args .table) _ _ (c .before .before .before .before .args .old .now) (c .before .before .before .loop .j) (c .before .before .loop-test .taken)) ∙ sym (c .before .has-key .ensures) ∙ c .if1 .left)))
+loop-again c =
+    let s = c .before .before .before .before in
+    let loop = c .before .before .before .loop in
+    let loop-test = c .before .before .loop-test in
+    (omega (arith, loop .inv .0), (omega (arith, loop-test .taken), law.skip-more (loop .j) (loop .inv .1 .1) (sym (law.match-is (s .args .area .now) (s .args .table) _ _ (s .args .old .now) (loop .j) (loop-test .taken)) ∙ sym (c .before .has-key .ensures) ∙ c .if1 .left)))
 
 returns-2 : tie.Need-returns-2 Inv-loop μ-loop
 returns-2 c = law.first-none (c .before .loop .j) (c .before .loop .inv .0) (omega (arith, c .loop-test .left)) (c .before .loop .inv .1 .0) (c .before .loop .inv .1 .1)

@@ -10,7 +10,9 @@ area-length-requires : tie.Need-area-length-requires
 area-length-requires c κs = search needs
 
 returns : tie.Need-returns
-returns c = law.wrong-length (schemaOf (c .before .before .before .args .schema .now)) (c .before .before .before .args .call .now) (c .before .before .before .args .area .now) (λ z. c .if1 .taken (z ∙ sym (c .before .area-length .ensures .0)))
+returns c =
+    let s = c .before .before .before in
+    law.wrong-length (schemaOf (s .args .schema .now)) (s .args .call .now) (s .args .area .now) (λ z. c .if1 .taken (z ∙ sym (c .before .area-length .ensures .0)))
 
 read-call-requires : tie.Need-read-call-requires
 read-call-requires c κs = search needs
@@ -19,25 +21,60 @@ is-refused-requires : tie.Need-is-refused-requires
 is-refused-requires c κs = search needs
 
 returns-2 : tie.Need-returns-2
-returns-2 c = law.bad-call (schemaOf (c .before .before .before .before .before .before .args .schema .now)) (c .before .before .before .before .before .before .args .call .now) (c .before .before .before .before .before .before .args .area .now) (c .before .before .before .if1 .left ∙ c .before .before .before .before .area-length .ensures .0) (law.read-refused (schemaOf (c .before .before .before .before .before .before .args .schema .now)) (c .before .before .before .before .before .before .args .call .now) (c .before .before .read-call .result) (c .before .before .read-call .ensures) (sym (c .before .is-refused .ensures) ∙ c .if2 .taken))
+returns-2 c =
+    let s = c .before .before .before .before .before .before in
+    let sc = schemaOf (s .args .schema .now) in
+    let area-length = c .before .before .before .before .area-length in
+    let if1 = c .before .before .before .if1 in
+    let read-call = c .before .before .read-call in
+    law.bad-call sc (s .args .call .now) (s .args .area .now) (if1 .left ∙ area-length .ensures .0) (law.read-refused sc (s .args .call .now) (read-call .result) (read-call .ensures) (sym (c .before .is-refused .ensures) ∙ c .if2 .taken))
 
 is-undamaged-requires : tie.Need-is-undamaged-requires
-is-undamaged-requires c κs = (c .before .before .before .before .before .before .before .pre, (c .before .before .before .before .if1 .left ∙ c .before .before .before .before .before .area-length .ensures .0))
+is-undamaged-requires c κs =
+    let area-length = c .before .before .before .before .before .area-length in
+    let if1 = c .before .before .before .before .if1 in
+    (c .before .before .before .before .before .before .before .pre, (if1 .left ∙ area-length .ensures .0))
 
 same-length : tie.Need-same-length
 same-length c = search needs
 
 returns-3 : tie.Need-returns-3
-returns-3 c = law.damaged (schemaOf (c .before .before .before .before .before .before .before .before .before .args .schema .now)) (c .before .before .before .before .before .before .before .before .before .args .call .now) (c .before .before .before .before .before .before .before .before .before .args .area .now) (c .before .before .before .before .before .before .if1 .left ∙ c .before .before .before .before .before .before .before .area-length .ensures .0) ((law.read-call (schemaOf (c .before .before .before .before .before .before .before .before .before .args .schema .now)) (c .before .before .before .before .before .before .before .before .before .args .call .now) (c .before .before .before .before .before .read-call .result) (c .before .before .before .before .before .read-call .ensures) (sym (c .before .before .before .before .is-refused .ensures) ∙ c .before .before .before .if2 .left)) .allowed-is) (sym (c .before .is-undamaged .ensures) ∙ not-true _ (c .if3 .taken))
+returns-3 c =
+    let s = c .before .before .before .before .before .before .before .before .before in
+    let sc = schemaOf (s .args .schema .now) in
+    let area-length = c .before .before .before .before .before .before .before .area-length in
+    let if1 = c .before .before .before .before .before .before .if1 in
+    let read-call = c .before .before .before .before .before .read-call in
+    let is-refused = c .before .before .before .before .is-refused in
+    let if2 = c .before .before .before .if2 in
+    law.damaged sc (s .args .call .now) (s .args .area .now) (if1 .left ∙ area-length .ensures .0) ((law.read-call sc (s .args .call .now) (read-call .result) (read-call .ensures) (sym (is-refused .ensures) ∙ if2 .left)) .allowed-is) (sym (c .before .is-undamaged .ensures) ∙ not-true _ (c .if3 .taken))
 
 carry-out-requires : tie.Need-carry-out-requires
-carry-out-requires c κs = (law.sound-area (c .before .before .before .before .before .before .before .before .before .before .args .schema .now) (c .before .before .before .before .before .before .before .before .before .before .args .area .now) (c .before .before .before .before .before .before .before .before .before .before .pre) (c .before .before .before .before .before .before .before .if1 .left ∙ c .before .before .before .before .before .before .before .before .area-length .ensures .0) (sym (c .before .before .is-undamaged .ensures) ∙ not-false _ (c .before .if3 .left)), c .before .before .before .before .before .before .read-call .ensures)
+carry-out-requires c κs =
+    let s = c .before .before .before .before .before .before .before .before .before .before in
+    let area-length = c .before .before .before .before .before .before .before .before .area-length in
+    let if1 = c .before .before .before .before .before .before .before .if1 in
+    let read-call = c .before .before .before .before .before .before .read-call in
+    (law.sound-area (s .args .schema .now) (s .args .area .now) (s .pre) (if1 .left ∙ area-length .ensures .0) (sym (c .before .before .is-undamaged .ensures) ∙ not-false _ (c .before .if3 .left)), read-call .ensures)
 
 same-length-2 : tie.Need-same-length-2
 same-length-2 c = search needs
 
 returns-4 : tie.Need-returns-4
-returns-4 c = let h = law.sound-area (c .before .before .before .before .before .before .before .before .before .before .before .before .args .schema .now) (c .before .before .before .before .before .before .before .before .before .before .before .before .args .area .now) (c .before .before .before .before .before .before .before .before .before .before .before .before .pre) (c .before .before .before .before .before .before .before .before .before .if1 .left ∙ c .before .before .before .before .before .before .before .before .before .before .area-length .ensures .0) (sym (c .before .before .before .before .is-undamaged .ensures) ∙ not-false _ (c .before .before .before .if3 .left)) in c .before .carry-out .ensures ∙ law.carried (schemaOf (c .before .before .before .before .before .before .before .before .before .before .before .before .args .schema .now)) (c .before .before .before .before .before .before .before .before .before .before .before .before .args .call .now) (c .before .before .before .before .before .before .before .before .before .before .before .before .args .area .now) (c .before .before .before .before .before .before .before .before .before .if1 .left ∙ c .before .before .before .before .before .before .before .before .before .before .area-length .ensures .0) (law.read-call (schemaOf (c .before .before .before .before .before .before .before .before .before .before .before .before .args .schema .now)) (c .before .before .before .before .before .before .before .before .before .before .before .before .args .call .now) (c .before .before .before .before .before .before .before .before .read-call .result) (c .before .before .before .before .before .before .before .before .read-call .ensures) (sym (c .before .before .before .before .before .before .before .is-refused .ensures) ∙ c .before .before .before .before .before .before .if2 .left)) (h .ready .fit .legible-is) (h .undamaged-is)
+returns-4 c =
+    let s = c .before .before .before .before .before .before .before .before .before .before .before .before in
+    let sc = schemaOf (s .args .schema .now) in
+    let a = s .args .area .now in
+    let area-length = c .before .before .before .before .before .before .before .before .before .before .area-length in
+    let if1 = c .before .before .before .before .before .before .before .before .before .if1 in
+    let read-call = c .before .before .before .before .before .before .before .before .read-call in
+    let is-refused = c .before .before .before .before .before .before .before .is-refused in
+    let if2 = c .before .before .before .before .before .before .if2 in
+    let is-undamaged = c .before .before .before .before .is-undamaged in
+    let if3 = c .before .before .before .if3 in
+    let h = law.sound-area (s .args .schema .now) a (s .pre) (if1 .left ∙ area-length .ensures .0) (sym (is-undamaged .ensures) ∙ not-false _ (if3 .left)) in
+    c .before .carry-out .ensures
+    ∙ law.carried sc (s .args .call .now) a (if1 .left ∙ area-length .ensures .0) (law.read-call sc (s .args .call .now) (read-call .result) (read-call .ensures) (sym (is-refused .ensures) ∙ if2 .left)) (h .ready .fit .legible-is) (h .undamaged-is)
 
 pub call-area-spec : {M : Type 1} → statement M
 call-area-spec =

@@ -11,19 +11,25 @@ enum-known-request : tie.Need-enum-known-request
 enum-known-request c = search needs
 
 insert-requires : tie.Need-insert-requires
-insert-requires c κs = law.insert-call (c .before .before .before .before .before .args .schema .now) (c .before .before .before .before .before .args .area .now) (c .before .before .before .before .before .args .call .now) (c .before .before .before .before .before .args .request) (c .before .before .before .before .before .pre .0) (c .before .before .before .before .before .pre .1) (c .before .before .request .given .1)
+insert-requires c κs =
+    let s = c .before .before .before .before .before in
+    law.insert-call (s .args .schema .now) (s .args .area .now) (s .args .call .now) (s .args .request) (s .pre .0) (s .pre .1) (c .before .before .request .given .1)
 
 enum-known-request-2 : tie.Need-enum-known-request-2
 enum-known-request-2 c = search needs
 
 update-requires : tie.Need-update-requires
-update-requires c κs = law.update-call (c .before .before .before .before .before .args .schema .now) (c .before .before .before .before .before .args .area .now) (c .before .before .before .before .before .args .call .now) (c .before .before .before .before .before .args .request) (c .before .before .before .before .before .pre .0) (c .before .before .before .before .before .pre .1) (c .before .before .request2 .given .1)
+update-requires c κs =
+    let s = c .before .before .before .before .before in
+    law.update-call (s .args .schema .now) (s .args .area .now) (s .args .call .now) (s .args .request) (s .pre .0) (s .pre .1) (c .before .before .request2 .given .1)
 
 enum-known-request-3 : tie.Need-enum-known-request-3
 enum-known-request-3 c = search needs
 
 delete-requires : tie.Need-delete-requires
-delete-requires c κs = (c .before .before .before .before .before .pre .0, law.delete-call (c .before .before .before .before .before .args .schema .now) (c .before .before .before .before .before .args .area .now) (c .before .before .before .before .before .args .call .now) (c .before .before .before .before .before .args .request) (c .before .before .before .before .before .pre .0) (c .before .before .before .before .before .pre .1) (c .before .before .request3 .given .1))
+delete-requires c κs =
+    let s = c .before .before .before .before .before in
+    (s .pre .0, law.delete-call (s .args .schema .now) (s .args .area .now) (s .args .call .now) (s .args .request) (s .pre .0) (s .pre .1) (c .before .before .request3 .given .1))
 
 enum-told-2 : tie.Need-enum-told-2
 enum-told-2 c = search needs
@@ -41,13 +47,17 @@ enum-known-request-4 : tie.Need-enum-known-request-4
 enum-known-request-4 c = search needs
 
 release-requires : tie.Need-release-requires
-release-requires c κs = (c .before .before .before .before .before .pre .0 .ready, law.release-call (c .before .before .before .before .before .args .schema .now) (c .before .before .before .before .before .args .area .now) (c .before .before .before .before .before .args .call .now) (c .before .before .before .before .before .args .request) (c .before .before .before .before .before .pre .0) (c .before .before .before .before .before .pre .1) (c .before .before .request4 .given .1))
+release-requires c κs =
+    let s = c .before .before .before .before .before in
+    (s .pre .0 .ready, law.release-call (s .args .schema .now) (s .args .area .now) (s .args .call .now) (s .args .request) (s .pre .0) (s .pre .1) (c .before .before .request4 .given .1))
 
 enum-known-request-5 : tie.Need-enum-known-request-5
 enum-known-request-5 c = search needs
 
 rollback-to-requires : tie.Need-rollback-to-requires
-rollback-to-requires c κs = (c .before .before .before .before .before .pre .0, law.rollback-call (c .before .before .before .before .before .args .schema .now) (c .before .before .before .before .before .args .area .now) (c .before .before .before .before .before .args .call .now) (c .before .before .before .before .before .args .request) (c .before .before .before .before .before .pre .0) (c .before .before .before .before .before .pre .1) (c .before .before .request5 .given .1))
+rollback-to-requires c κs =
+    let s = c .before .before .before .before .before in
+    (s .pre .0, law.rollback-call (s .args .schema .now) (s .args .area .now) (s .args .call .now) (s .args .request) (s .pre .0) (s .pre .1) (c .before .before .request5 .given .1))
 
 enum-told-4 : tie.Need-enum-told-4
 enum-told-4 c = search needs
@@ -62,7 +72,9 @@ commit-requires : tie.Need-commit-requires
 commit-requires c κs = c .before .before .before .before .pre .0 .ready
 
 returns : tie.Need-returns
-returns c = law.malformed-call (c .before .before .before .args .schema .now) (c .before .before .before .args .area .now) (c .before .before .before .args .call .now) (c .before .before .before .args .request) (c .before .before .before .pre .0) (c .before .before .before .pre .1) (c .enum-told .given .1)
+returns c =
+    let s = c .before .before .before in
+    law.malformed-call (s .args .schema .now) (s .args .area .now) (s .args .call .now) (s .args .request) (s .pre .0) (s .pre .1) (c .enum-told .given .1)
 
 same-length : tie.Need-same-length
 same-length c = search needs

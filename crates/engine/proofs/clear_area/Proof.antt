@@ -9,7 +9,9 @@ area-length-requires : tie.Need-area-length-requires
 area-length-requires c κs = search needs
 
 returns : tie.Need-returns
-returns c = law.fresh-refused (schemaOf (c .before .before .before .args .schema .now)) (c .before .before .before .args .area .now) (λ z. c .if1 .taken (z ∙ sym (c .before .area-length .ensures .0)))
+returns c =
+    let s = c .before .before .before in
+    law.fresh-refused (schemaOf (s .args .schema .now)) (s .args .area .now) (λ z. c .if1 .taken (z ∙ sym (c .before .area-length .ensures .0)))
 
 clear-from-requires : tie.Need-clear-from-requires
 clear-from-requires c κs = search needs
@@ -18,7 +20,11 @@ same-length : tie.Need-same-length
 same-length c = search needs
 
 returns-2 : tie.Need-returns-2
-returns-2 c = law.fresh-cleared (schemaOf (c .before .before .before .before .before .before .args .schema .now)) (c .before .before .before .before .before .before .args .area .now) _ (c .before .before .before .if1 .left ∙ c .before .before .before .before .area-length .ensures .0) (c .before .clear-from .ensures)
+returns-2 c =
+    let s = c .before .before .before .before .before .before in
+    let area-length = c .before .before .before .before .area-length in
+    let if1 = c .before .before .before .if1 in
+    law.fresh-cleared (schemaOf (s .args .schema .now)) (s .args .area .now) _ (if1 .left ∙ area-length .ensures .0) (c .before .clear-from .ensures)
 
 pub clear-area-spec : {M : Type 1} → statement M
 clear-area-spec =

@@ -14,7 +14,9 @@ same-length : tie.Need-same-length
 same-length c = search needs
 
 returns : tie.Need-returns
-returns c = law.delete-refused (c .before .before .before .before .args .schema .now) (c .before .before .before .before .args .area .now) (c .before .before .before .before .args .t) (c .before .before .before .before .args .r) (c .before .before .before .before .pre .0 .ready .fit) _ (c .before .is-live-row .ensures) 0 [] (not-true _ (c .if1 .taken))
+returns c =
+    let s = c .before .before .before .before in
+    law.delete-refused (s .args .schema .now) (s .args .area .now) (s .args .t) (s .args .r) (s .pre .0 .ready .fit) _ (c .before .is-live-row .ensures) 0 [] (not-true _ (c .if1 .taken))
 
 change-row-requires : tie.Need-change-row-requires
 change-row-requires c κs = search needs
@@ -24,7 +26,11 @@ same-length-2 c = search needs
 
 returns-2 : tie.Need-returns-2
 unfolding deletedImage
-returns-2 c = law.delete-stated (c .before .before .before .before .before .before .before .args .schema .now) (c .before .before .before .before .before .before .before .args .area .now) (c .before .before .before .before .before .before .before .args .t) (c .before .before .before .before .before .before .before .args .r) (c .before .before .before .before .before .before .before .pre .0 .ready .fit) _ (c .before .before .before .before .is-live-row .ensures) 0 [] _ _ (c .before .change-row .ensures) (not-false _ (c .before .before .before .if1 .left)) refl
+returns-2 c =
+    let s = c .before .before .before .before .before .before .before in
+    let is-live-row = c .before .before .before .before .is-live-row in
+    let if1 = c .before .before .before .if1 in
+    law.delete-stated (s .args .schema .now) (s .args .area .now) (s .args .t) (s .args .r) (s .pre .0 .ready .fit) _ (is-live-row .ensures) 0 [] _ _ (c .before .change-row .ensures) (not-false _ (if1 .left)) refl
 
 pub delete-spec : {M : Type 1} → statement M
 delete-spec =

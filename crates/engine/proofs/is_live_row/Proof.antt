@@ -13,7 +13,10 @@ image-live-requires : tie.Need-image-live-requires
 image-live-requires c κs = search needs
 
 returns : tie.Need-returns
-returns c = c .image-live .ensures ∙ law.row-live (c .before .before .before .args .t) (c .before .before .before .args .r) (workOf (schemaOf (c .before .before .before .args .schema .now)) (c .before .before .before .args .area .now) .tabs) (c .before .image-of .ensures)
+returns c =
+    let s = c .before .before .before in
+    c .image-live .ensures
+    ∙ law.row-live (s .args .t) (s .args .r) (workOf (schemaOf (s .args .schema .now)) (s .args .area .now) .tabs) (c .before .image-of .ensures)
 
 pub is-live-row-spec : {M : Type 1} → statement M
 is-live-row-spec = tie.close (tie.spec image-of-requires image-live-requires returns)

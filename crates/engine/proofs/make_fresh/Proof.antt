@@ -20,16 +20,25 @@ clear-area-requires : tie.Need-clear-area-requires
 clear-area-requires c κs = sym (c .before .before .before .check-schema .ensures) ∙ c .before .enum-told3 .given .1
 
 returns : tie.Need-returns
-returns c = law.fresh-malformed (c .before .before .before .before .args .schema .now) (c .before .before .before .before .args .area .now) _ (c .before .before .check-schema .ensures) (c .enum-told .given .1)
+returns c =
+    let s = c .before .before .before .before in
+    law.fresh-malformed (s .args .schema .now) (s .args .area .now) _ (c .before .before .check-schema .ensures) (c .enum-told .given .1)
 
 returns-2 : tie.Need-returns-2
-returns-2 c = law.fresh-unmatched (c .before .before .before .before .args .schema .now) (c .before .before .before .before .args .area .now) _ (c .before .before .check-schema .ensures) (c .enum-told2 .given .1)
+returns-2 c =
+    let s = c .before .before .before .before in
+    law.fresh-unmatched (s .args .schema .now) (s .args .area .now) _ (c .before .before .check-schema .ensures) (c .enum-told2 .given .1)
 
 same-length : tie.Need-same-length
 same-length c = search needs
 
 returns-3 : tie.Need-returns-3
-returns-3 c = c .before .clear-area .ensures ∙ law.fresh-under (c .before .before .before .before .before .before .before .args .schema .now) (c .before .before .before .before .before .before .before .args .area .now) _ (c .before .before .before .before .before .check-schema .ensures) (c .before .before .before .enum-told3 .given .1)
+returns-3 c =
+    let s = c .before .before .before .before .before .before .before in
+    let check-schema = c .before .before .before .before .before .check-schema in
+    let enum-told3 = c .before .before .before .enum-told3 in
+    c .before .clear-area .ensures
+    ∙ law.fresh-under (s .args .schema .now) (s .args .area .now) _ (check-schema .ensures) (enum-told3 .given .1)
 
 pub make-fresh-spec : {M : Type 1} → statement M
 make-fresh-spec =

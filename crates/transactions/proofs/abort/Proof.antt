@@ -10,16 +10,25 @@ undo-to-requires : tie.Need-undo-to-requires
 undo-to-requires c κs = undoable (c .before .before .pre .0)
 
 load-kept-requires : tie.Need-load-kept-requires
-load-kept-requires c κs = (step.area-long (step.abort-mid (c .before .before .before .before .before .pre .0 .ready .fit) (c .before .before .before .before .before .pre .1) (c .before .before .undo-to .ensures) .fit), omega arith)
+load-kept-requires c κs =
+    let s = c .before .before .before .before .before in
+    (step.area-long (step.abort-mid (s .pre .0 .ready .fit) (s .pre .1) (c .before .before .undo-to .ensures) .fit), omega arith)
 
 end-requires : tie.Need-end-requires
-end-requires c κs = record { accepted = c .before .before .before .before .before .before .before .before .pre .0 .ready .accepted; fit = step.abort-loaded (c .before .before .before .before .before .before .before .before .pre .0 .ready .fit) (c .before .before .before .before .before .before .before .before .pre .1) (c .before .before .before .before .before .undo-to .ensures) (c .before .before .load-kept .ensures) .fit }
+end-requires c κs =
+    let s = c .before .before .before .before .before .before .before .before in
+    let undo-to = c .before .before .before .before .before .undo-to in
+    record { accepted = s .pre .0 .ready .accepted; fit = step.abort-loaded (s .pre .0 .ready .fit) (s .pre .1) (undo-to .ensures) (c .before .before .load-kept .ensures) .fit }
 
 same-length : tie.Need-same-length
 same-length c = search needs
 
 returns : tie.Need-returns
-returns c = step.abort-holds (c .before .before .before .before .before .before .before .before .before .before .pre .0 .ready .fit) (c .before .before .before .before .before .before .before .before .before .before .pre .1) (c .before .before .before .before .before .before .before .undo-to .ensures) (c .before .before .before .before .load-kept .ensures) (c .before .end .ensures)
+returns c =
+    let s = c .before .before .before .before .before .before .before .before .before .before in
+    let undo-to = c .before .before .before .before .before .before .before .undo-to in
+    let load-kept = c .before .before .before .before .load-kept in
+    step.abort-holds (s .pre .0 .ready .fit) (s .pre .1) (undo-to .ensures) (load-kept .ensures) (c .before .end .ensures)
 
 pub abort-spec : {M : Type 1} → statement M
 abort-spec =

@@ -10,16 +10,26 @@ undo-to-requires : tie.Need-undo-to-requires
 undo-to-requires c κs = undoable (c .before .before .pre .0)
 
 close-levels-requires : tie.Need-close-levels-requires
-close-levels-requires c κs = (step.area-long (step.back-mid (c .before .before .before .before .before .pre .0 .ready .fit) (c .before .before .before .before .before .args .i) (c .before .before .before .before .before .args .n) (c .before .before .before .before .before .args .base) (c .before .before .before .before .before .pre .1 .0) (c .before .before .before .before .before .pre .1 .1) (c .before .before .undo-to .ensures) .fit), (omega (arith, step.back-count (c .before .before .before .before .before .pre .0 .ready .fit) (c .before .before .before .before .before .args .i) (c .before .before .before .before .before .args .n) (c .before .before .before .before .before .args .base) (c .before .before .before .before .before .pre .1 .0) (c .before .before .before .before .before .pre .1 .1) (c .before .before .undo-to .ensures), c .before .before .before .before .before .pre .1 .0), step.levels-at-most (step.back-mid (c .before .before .before .before .before .pre .0 .ready .fit) (c .before .before .before .before .before .args .i) (c .before .before .before .before .before .args .n) (c .before .before .before .before .before .args .base) (c .before .before .before .before .before .pre .1 .0) (c .before .before .before .before .before .pre .1 .1) (c .before .before .undo-to .ensures) .fit)))
+close-levels-requires c κs =
+    let s = c .before .before .before .before .before in
+    let undo-to = c .before .before .undo-to in
+    (step.area-long (step.back-mid (s .pre .0 .ready .fit) (s .args .i) (s .args .n) (s .args .base) (s .pre .1 .0) (s .pre .1 .1) (undo-to .ensures) .fit), (omega (arith, step.back-count (s .pre .0 .ready .fit) (s .args .i) (s .args .n) (s .args .base) (s .pre .1 .0) (s .pre .1 .1) (undo-to .ensures), s .pre .1 .0), step.levels-at-most (step.back-mid (s .pre .0 .ready .fit) (s .args .i) (s .args .n) (s .args .base) (s .pre .1 .0) (s .pre .1 .1) (undo-to .ensures) .fit)))
 
 load-kept-requires : tie.Need-load-kept-requires
-load-kept-requires c κs = (step.area-long (step.back-closed (c .before .before .before .before .before .before .before .before .pre .0 .ready .fit) (c .before .before .before .before .before .before .before .before .args .i) (c .before .before .before .before .before .before .before .before .args .n) (c .before .before .before .before .before .before .before .before .args .base) (c .before .before .before .before .before .before .before .before .pre .1 .0) (c .before .before .before .before .before .before .before .before .pre .1 .1) (c .before .before .before .before .before .undo-to .ensures) (c .before .before .close-levels .ensures) .fit), omega (arith, c .before .before .before .before .before .before .before .before .pre .1 .0, step.few (c .before .before .before .before .before .before .before .before .pre .0 .ready .fit)))
+load-kept-requires c κs =
+    let s = c .before .before .before .before .before .before .before .before in
+    let undo-to = c .before .before .before .before .before .undo-to in
+    (step.area-long (step.back-closed (s .pre .0 .ready .fit) (s .args .i) (s .args .n) (s .args .base) (s .pre .1 .0) (s .pre .1 .1) (undo-to .ensures) (c .before .before .close-levels .ensures) .fit), omega (arith, s .pre .1 .0, step.few (s .pre .0 .ready .fit)))
 
 same-length : tie.Need-same-length
 same-length c = search needs
 
 returns : tie.Need-returns
-returns c = step.back-holds (c .before .before .before .before .before .before .before .before .before .before .pre .0 .ready .fit) (c .before .before .before .before .before .before .before .before .before .before .args .i) (c .before .before .before .before .before .before .before .before .before .before .args .n) (c .before .before .before .before .before .before .before .before .before .before .args .base) (c .before .before .before .before .before .before .before .before .before .before .pre .1 .0) (c .before .before .before .before .before .before .before .before .before .before .pre .1 .1) (c .before .before .before .before .before .before .before .undo-to .ensures) (c .before .before .before .before .close-levels .ensures) (c .before .load-kept .ensures)
+returns c =
+    let s = c .before .before .before .before .before .before .before .before .before .before in
+    let undo-to = c .before .before .before .before .before .before .before .undo-to in
+    let close-levels = c .before .before .before .before .close-levels in
+    step.back-holds (s .pre .0 .ready .fit) (s .args .i) (s .args .n) (s .args .base) (s .pre .1 .0) (s .pre .1 .1) (undo-to .ensures) (close-levels .ensures) (c .before .load-kept .ensures)
 
 pub back-to-spec : {M : Type 1} → statement M
 back-to-spec =

@@ -16,16 +16,26 @@ same-length : tie.Need-same-length
 same-length c = search needs
 
 returns : tie.Need-returns
-returns c = turn.turn-same (c .before .before .before .before .pre .fit) (turn.begin-inside (schemaOf (c .before .before .before .before .args .schema .now)) (view (schemaOf (c .before .before .before .before .args .schema .now)) (c .before .before .before .before .args .area .now)) (step.positive _ (λ z. c .if1 .taken (step.count-is (c .before .before .before .before .pre .fit) (c .before .nat-at .ensures) ∙ z))))
+returns c =
+    let s = c .before .before .before .before in
+    let sc = schemaOf (s .args .schema .now) in
+    turn.turn-same (s .pre .fit) (turn.begin-inside sc (view sc (s .args .area .now)) (step.positive _ (λ z. c .if1 .taken (step.count-is (s .pre .fit) (c .before .nat-at .ensures) ∙ z))))
 
 open-next-requires : tie.Need-open-next-requires
-open-next-requires c κs = (c .before .before .before .before .before .pre, (step.closed-some (c .before .before .before .before .before .pre .fit) (omega (arith, c .before .before .nat-at .ensures, c .before .if1 .left)), omega arith))
+open-next-requires c κs =
+    let s = c .before .before .before .before .before in
+    (s .pre, (step.closed-some (s .pre .fit) (omega (arith, c .before .before .nat-at .ensures, c .before .if1 .left)), omega arith))
 
 same-length-2 : tie.Need-same-length-2
 same-length-2 c = search needs
 
 returns-2 : tie.Need-returns-2
-returns-2 c = turn.turn-words (c .before .open-next .ensures) (turn.begin-opens (schemaOf (c .before .before .before .before .before .before .before .args .schema .now)) (view (schemaOf (c .before .before .before .before .before .before .before .args .schema .now)) (c .before .before .before .before .before .before .before .args .area .now)) (sym (step.count-is (c .before .before .before .before .before .before .before .pre .fit) (c .before .before .before .before .nat-at .ensures)) ∙ c .before .before .before .if1 .left) (step.closed-some (c .before .before .before .before .before .before .before .pre .fit) (omega (arith, c .before .before .before .before .nat-at .ensures, c .before .before .before .if1 .left))))
+returns-2 c =
+    let s = c .before .before .before .before .before .before .before in
+    let sc = schemaOf (s .args .schema .now) in
+    let nat-at = c .before .before .before .before .nat-at in
+    let if1 = c .before .before .before .if1 in
+    turn.turn-words (c .before .open-next .ensures) (turn.begin-opens sc (view sc (s .args .area .now)) (sym (step.count-is (s .pre .fit) (nat-at .ensures)) ∙ if1 .left) (step.closed-some (s .pre .fit) (omega (arith, nat-at .ensures, if1 .left))))
 
 pub begin-spec : {M : Type 1} → statement M
 begin-spec =

@@ -16,7 +16,10 @@ same-length : tie.Need-same-length
 same-length c = search needs
 
 returns : tie.Need-returns
-returns c = turn.turn-same (c .before .before .before .before .pre .fit) (turn.commit-outside (schemaOf (c .before .before .before .before .args .schema .now)) (view (schemaOf (c .before .before .before .before .args .schema .now)) (c .before .before .before .before .args .area .now)) (sym (step.count-is (c .before .before .before .before .pre .fit) (c .before .nat-at .ensures)) ∙ c .if1 .taken))
+returns c =
+    let s = c .before .before .before .before in
+    let sc = schemaOf (s .args .schema .now) in
+    turn.turn-same (s .pre .fit) (turn.commit-outside sc (view sc (s .args .area .now)) (sym (step.count-is (s .pre .fit) (c .before .nat-at .ensures)) ∙ c .if1 .taken))
 
 commit-now-requires : tie.Need-commit-now-requires
 commit-now-requires c κs = search needs
@@ -25,7 +28,13 @@ same-length-2 : tie.Need-same-length-2
 same-length-2 c = search needs
 
 returns-2 : tie.Need-returns-2
-returns-2 c = c .before .commit-now .ensures ∙ sym (ap onWords (turn.commit-inside (schemaOf (c .before .before .before .before .before .before .before .args .schema .now)) (view (schemaOf (c .before .before .before .before .before .before .before .args .schema .now)) (c .before .before .before .before .before .before .before .args .area .now)) (step.positive _ (λ z. c .before .before .before .if1 .left (step.count-is (c .before .before .before .before .before .before .before .pre .fit) (c .before .before .before .before .nat-at .ensures) ∙ z)))))
+returns-2 c =
+    let s = c .before .before .before .before .before .before .before in
+    let sc = schemaOf (s .args .schema .now) in
+    let nat-at = c .before .before .before .before .nat-at in
+    let if1 = c .before .before .before .if1 in
+    c .before .commit-now .ensures
+    ∙ sym (ap onWords (turn.commit-inside sc (view sc (s .args .area .now)) (step.positive _ (λ z. if1 .left (step.count-is (s .pre .fit) (nat-at .ensures) ∙ z)))))
 
 pub commit-spec : {M : Type 1} → statement M
 commit-spec =

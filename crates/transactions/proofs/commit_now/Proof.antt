@@ -21,7 +21,11 @@ same-length : tie.Need-same-length
 same-length c = search needs
 
 returns : tie.Need-returns
-returns c = turn.turn-same (c .before .before .before .before .before .pre .fit) (turn.commit-refused (schemaOf (c .before .before .before .before .before .args .schema .now)) (view (schemaOf (c .before .before .before .before .before .args .schema .now)) (c .before .before .before .before .before .args .area .now)) (ap allZero (step.kept-at (schemaOf (c .before .before .before .before .before .args .schema .now)) (c .before .before .before .before .before .args .area .now) ∙ sym (c .before .before .numbers-at .ensures)) ∙ sym (c .before .all-zero .ensures) ∙ not-true _ (c .if1 .taken)))
+returns c =
+    let s = c .before .before .before .before .before in
+    let sc = schemaOf (s .args .schema .now) in
+    let a = s .args .area .now in
+    turn.turn-same (s .pre .fit) (turn.commit-refused sc (view sc a) (ap allZero (step.kept-at sc a ∙ sym (c .before .before .numbers-at .ensures)) ∙ sym (c .before .all-zero .ensures) ∙ not-true _ (c .if1 .taken)))
 
 end-requires : tie.Need-end-requires
 end-requires c κs = search needs
@@ -30,7 +34,14 @@ same-length-2 : tie.Need-same-length-2
 same-length-2 c = search needs
 
 returns-2 : tie.Need-returns-2
-returns-2 c = turn.turn-words (c .before .end .ensures) (turn.commit-ends (schemaOf (c .before .before .before .before .before .before .before .before .args .schema .now)) (view (schemaOf (c .before .before .before .before .before .before .before .before .args .schema .now)) (c .before .before .before .before .before .before .before .before .args .area .now)) (ap allZero (step.kept-at (schemaOf (c .before .before .before .before .before .before .before .before .args .schema .now)) (c .before .before .before .before .before .before .before .before .args .area .now) ∙ sym (c .before .before .before .before .before .numbers-at .ensures)) ∙ sym (c .before .before .before .before .all-zero .ensures) ∙ not-false _ (c .before .before .before .if1 .left)))
+returns-2 c =
+    let s = c .before .before .before .before .before .before .before .before in
+    let sc = schemaOf (s .args .schema .now) in
+    let a = s .args .area .now in
+    let numbers-at = c .before .before .before .before .before .numbers-at in
+    let all-zero = c .before .before .before .before .all-zero in
+    let if1 = c .before .before .before .if1 in
+    turn.turn-words (c .before .end .ensures) (turn.commit-ends sc (view sc a) (ap allZero (step.kept-at sc a ∙ sym (numbers-at .ensures)) ∙ sym (all-zero .ensures) ∙ not-false _ (if1 .left)))
 
 pub commit-now-spec : {M : Type 1} → statement M
 commit-now-spec =

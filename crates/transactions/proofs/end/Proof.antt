@@ -10,19 +10,29 @@ nat-at-requires : tie.Need-nat-at-requires
 nat-at-requires c κs = omega (arith, step.area-long (c .before .before .pre .fit))
 
 close-levels-requires : tie.Need-close-levels-requires
-close-levels-requires c κs = (step.area-long (c .before .before .before .before .pre .fit), (omega (arith, c .before .nat-at .ensures), step.levels-at-most (c .before .before .before .before .pre .fit)))
+close-levels-requires c κs =
+    let s = c .before .before .before .before in
+    (step.area-long (s .pre .fit), (omega (arith, c .before .nat-at .ensures), step.levels-at-most (s .pre .fit)))
 
 slice-set-of-area : tie.Need-slice-set-of-area
 slice-set-of-area c = omega (arith, step.area-long (c .before .before .before .before .before .before .pre .fit), c .before .close-levels .kept .0)
 
 empty-journal-requires : tie.Need-empty-journal-requires
-empty-journal-requires c κs = record { accepted = c .before .before .before .before .before .before .before .pre .accepted; fit = step.end-mid (c .before .before .before .before .before .before .before .pre .fit) (step.closed-is (c .before .before .before .before .before .before .before .args .area .now) (c .before .before .close-levels .last .0) (c .before .before .before .before .nat-at .result) (c .before .before .close-levels .ensures) (c .before .before .before .before .nat-at .ensures)) refl .fit }
+empty-journal-requires c κs =
+    let s = c .before .before .before .before .before .before .before in
+    let nat-at = c .before .before .before .before .nat-at in
+    let close-levels = c .before .before .close-levels in
+    record { accepted = s .pre .accepted; fit = step.end-mid (s .pre .fit) (step.closed-is (s .args .area .now) (close-levels .last .0) (nat-at .result) (close-levels .ensures) (nat-at .ensures)) refl .fit }
 
 same-length : tie.Need-same-length
 same-length c = search needs
 
 returns : tie.Need-returns
-returns c = step.end-holds (c .before .before .before .before .before .before .before .before .before .pre .fit) (step.closed-is (c .before .before .before .before .before .before .before .before .before .args .area .now) (c .before .before .before .before .close-levels .last .0) (c .before .before .before .before .before .before .nat-at .result) (c .before .before .before .before .close-levels .ensures) (c .before .before .before .before .before .before .nat-at .ensures)) refl (c .before .empty-journal .ensures)
+returns c =
+    let s = c .before .before .before .before .before .before .before .before .before in
+    let nat-at = c .before .before .before .before .before .before .nat-at in
+    let close-levels = c .before .before .before .before .close-levels in
+    step.end-holds (s .pre .fit) (step.closed-is (s .args .area .now) (close-levels .last .0) (nat-at .result) (close-levels .ensures) (nat-at .ensures)) refl (c .before .empty-journal .ensures)
 
 pub end-spec : {M : Type 1} → statement M
 end-spec =

@@ -15,7 +15,12 @@ nat-at-requires-2 : tie.Need-nat-at-requires-2
 nat-at-requires-2 c κs = omega (arith, step.area-long (c .before .before .pre .0 .fit))
 
 returns : tie.Need-returns
-returns c = turn.open-is (view (schemaOf (c .before .before .before .args .schema .now)) (c .before .before .before .args .area .now)) (c .before .before .before .args .a) (c .before .nat-at .result) (c .nat-at2 .result) (c .before .before .before .pre .1) (step.count-is (c .before .before .before .pre .0 .fit) (c .before .nat-at .ensures)) (c .nat-at2 .ensures ∙ step.opener-word (schemaOf (c .before .before .before .args .schema .now)) (c .before .before .before .args .area .now))
+returns c =
+    let s = c .before .before .before in
+    let sc = schemaOf (s .args .schema .now) in
+    let a = s .args .area .now in
+    let nat-at = c .before .nat-at in
+    turn.open-is (view sc a) (s .args .a) (nat-at .result) (c .nat-at2 .result) (s .pre .1) (step.count-is (s .pre .0 .fit) (nat-at .ensures)) (c .nat-at2 .ensures ∙ step.opener-word sc a)
 
 pub is-open-spec : {M : Type 1} → statement M
 is-open-spec = tie.close (tie.spec nat-at-requires nat-at-requires-2 returns)

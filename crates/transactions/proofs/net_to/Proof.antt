@@ -21,13 +21,23 @@ numbers-at-requires-2 : tie.Need-numbers-at-requires-2
 numbers-at-requires-2 c κs = search needs
 
 less-of-requires : tie.Need-less-of-requires
-less-of-requires c κs = (small-more {m = 1024} (omega arith) (rw (c .numbers-at2 .ensures) (c .before .before .pre .1 .1)), small-more {m = 1024} (omega arith) (rw (c .before .numbers-at .ensures) (c .before .before .pre .1 .0)))
+less-of-requires c κs =
+    let s = c .before .before in
+    (small-more {m = 1024} (omega arith) (rw (c .numbers-at2 .ensures) (s .pre .1 .1)), small-more {m = 1024} (omega arith) (rw (c .before .numbers-at .ensures) (s .pre .1 .0)))
 
 sum-of-requires : tie.Need-sum-of-requires
-sum-of-requires c κs = rw (c .less-of .ensures) (less-small {m = 1024} {n = 1024} (c .before .numbers-at2 .result) (c .before .before .numbers-at .result) (search needs) (rw (c .before .numbers-at2 .ensures) (c .before .before .before .pre .1 .1)) (rw (c .before .before .numbers-at .ensures) (c .before .before .before .pre .1 .0)) (omega arith))
+sum-of-requires c κs =
+    let s = c .before .before .before in
+    let numbers-at = c .before .before .numbers-at in
+    let numbers-at2 = c .before .numbers-at2 in
+    rw (c .less-of .ensures) (less-small {m = 1024} {n = 1024} (numbers-at2 .result) (numbers-at .result) (search needs) (rw (numbers-at2 .ensures) (s .pre .1 .1)) (rw (numbers-at .ensures) (s .pre .1 .0)) (omega arith))
 
 returns : tie.Need-returns
-returns c = back _ (c .sum-of .ok) ∙ c .sum-of .ensures ∙ ap sum (c .before .less-of .ensures ∙ ap₂ less (c .before .before .numbers-at2 .ensures) (c .before .before .before .numbers-at .ensures))
+returns c =
+    let numbers-at = c .before .before .before .numbers-at in
+    back _ (c .sum-of .ok)
+    ∙ c .sum-of .ensures
+    ∙ ap sum (c .before .less-of .ensures ∙ ap₂ less (c .before .before .numbers-at2 .ensures) (numbers-at .ensures))
 
 pub net-to-spec : {M : Type 1} → statement M
 net-to-spec =

@@ -10,7 +10,9 @@ use Rattle.transactions.proofs.open_next.Statement.{statement}
 use Rattle.transactions.proofs.open_next.Tie as tie
 
 open-level-requires : tie.Need-open-level-requires
-open-level-requires c κs = (step.area-long (c .before .before .pre .0 .fit), (omega (arith, step.closed-below (c .before .before .pre .0 .fit) (c .before .before .pre .1 .0)), omega (arith, step.use-small (c .before .before .args .schema .now) (c .before .before .pre .0))))
+open-level-requires c κs =
+    let s = c .before .before in
+    (step.area-long (s .pre .0 .fit), (omega (arith, step.closed-below (s .pre .0 .fit) (s .pre .1 .0)), omega (arith, step.use-small (s .args .schema .now) (s .pre .0))))
 
 word-of-requires : tie.Need-word-of-requires
 word-of-requires c κs = search needs
@@ -22,7 +24,10 @@ same-length : tie.Need-same-length
 same-length c = search needs
 
 returns : tie.Need-returns
-returns c = step.open-holds (c .before .before .before .before .before .pre .0 .fit) (c .before .before .before .before .before .pre .1 .0) (c .before .before .before .before .before .args .opener) (c .before .before .open-level .ensures) (ap (λ (z : ℤ). set (c .before .before .open-level .last .0) 1 z) (back _ (c .word-of .ok) ∙ c .word-of .ensures))
+returns c =
+    let s = c .before .before .before .before .before in
+    let open-level = c .before .before .open-level in
+    step.open-holds (s .pre .0 .fit) (s .pre .1 .0) (s .args .opener) (open-level .ensures) (ap (λ (z : ℤ). set (open-level .last .0) 1 z) (back _ (c .word-of .ok) ∙ c .word-of .ensures))
 
 pub open-next-spec : {M : Type 1} → statement M
 open-next-spec =

@@ -17,7 +17,10 @@ same-length : tie.Need-same-length
 same-length c = search needs
 
 returns : tie.Need-returns
-returns c = turn.turn-same (c .before .before .before .before .pre .0 .fit) (turn.release-refused (schemaOf (c .before .before .before .before .args .schema .now)) (view (schemaOf (c .before .before .before .before .args .schema .now)) (c .before .before .before .before .args .area .now)) (c .before .before .before .before .args .a) (sym (c .before .is-open .ensures) ∙ not-true _ (c .if1 .taken)))
+returns c =
+    let s = c .before .before .before .before in
+    let sc = schemaOf (s .args .schema .now) in
+    turn.turn-same (s .pre .0 .fit) (turn.release-refused sc (view sc (s .args .area .now)) (s .args .a) (sym (c .before .is-open .ensures) ∙ not-true _ (c .if1 .taken)))
 
 commit-now-requires : tie.Need-commit-now-requires
 commit-now-requires c κs = search needs
@@ -26,7 +29,14 @@ same-length-2 : tie.Need-same-length-2
 same-length-2 c = search needs
 
 returns-2 : tie.Need-returns-2
-returns-2 c = c .before .commit-now .ensures ∙ sym (ap onWords (turn.release-first (schemaOf (c .before .before .before .before .before .before .before .before .args .schema .now)) (view (schemaOf (c .before .before .before .before .before .before .before .before .args .schema .now)) (c .before .before .before .before .before .before .before .before .args .area .now)) (c .before .before .before .before .before .before .before .before .args .a) (sym (c .before .before .before .before .before .is-open .ensures) ∙ not-false _ (c .before .before .before .before .if1 .left)) (c .before .before .before .if2 .taken)))
+returns-2 c =
+    let s = c .before .before .before .before .before .before .before .before in
+    let sc = schemaOf (s .args .schema .now) in
+    let is-open = c .before .before .before .before .before .is-open in
+    let if1 = c .before .before .before .before .if1 in
+    let if2 = c .before .before .before .if2 in
+    c .before .commit-now .ensures
+    ∙ sym (ap onWords (turn.release-first sc (view sc (s .args .area .now)) (s .args .a) (sym (is-open .ensures) ∙ not-false _ (if1 .left)) (if2 .taken)))
 
 nat-at-requires : tie.Need-nat-at-requires
 nat-at-requires c κs = omega (arith, step.area-long (c .before .before .before .before .before .before .pre .0 .fit))
@@ -35,16 +45,31 @@ add-close-levels : tie.Need-add-close-levels
 add-close-levels c = omega (arith, c .before .nat-at .ensures, step.levels-at-most (c .before .before .before .before .before .before .before .before .pre .0 .fit))
 
 sub-close-levels : tie.Need-sub-close-levels
-sub-close-levels c = omega (arith, step.count-is (c .before .before .before .before .before .before .before .before .pre .0 .fit) (c .before .nat-at .ensures), step.level-below (c .before .before .before .before .before .before .before .before .pre .0 .fit) (c .before .before .before .before .before .before .before .before .args .a) (sym (c .before .before .before .before .before .is-open .ensures) ∙ not-false _ (c .before .before .before .before .if1 .left)))
+sub-close-levels c =
+    let s = c .before .before .before .before .before .before .before .before in
+    let is-open = c .before .before .before .before .before .is-open in
+    let if1 = c .before .before .before .before .if1 in
+    omega (arith, step.count-is (s .pre .0 .fit) (c .before .nat-at .ensures), step.level-below (s .pre .0 .fit) (s .args .a) (sym (is-open .ensures) ∙ not-false _ (if1 .left)))
 
 close-levels-requires : tie.Need-close-levels-requires
-close-levels-requires c κs = (step.area-long (c .before .before .before .before .before .before .before .before .pre .0 .fit), (omega (arith, c .before .nat-at .ensures, c .before .before .before .before .before .before .before .before .pre .1, step.level-below (c .before .before .before .before .before .before .before .before .pre .0 .fit) (c .before .before .before .before .before .before .before .before .args .a) (sym (c .before .before .before .before .before .is-open .ensures) ∙ not-false _ (c .before .before .before .before .if1 .left))), step.levels-at-most (c .before .before .before .before .before .before .before .before .pre .0 .fit)))
+close-levels-requires c κs =
+    let s = c .before .before .before .before .before .before .before .before in
+    let is-open = c .before .before .before .before .before .is-open in
+    let if1 = c .before .before .before .before .if1 in
+    (step.area-long (s .pre .0 .fit), (omega (arith, c .before .nat-at .ensures, s .pre .1, step.level-below (s .pre .0 .fit) (s .args .a) (sym (is-open .ensures) ∙ not-false _ (if1 .left))), step.levels-at-most (s .pre .0 .fit)))
 
 same-length-3 : tie.Need-same-length-3
 same-length-3 c = search needs
 
 returns-3 : tie.Need-returns-3
-returns-3 c = turn.turn-words (step.release-holds (c .before .before .before .before .before .before .before .before .before .before .pre .0 .fit) (c .before .before .before .nat-at .result) (c .before .before .before .before .before .before .before .before .before .before .args .a) (c .before .before .before .nat-at .ensures) (c .before .before .before .before .before .before .before .before .before .before .pre .1) (omega (arith, step.count-is (c .before .before .before .before .before .before .before .before .before .before .pre .0 .fit) (c .before .before .before .nat-at .ensures), step.level-below (c .before .before .before .before .before .before .before .before .before .before .pre .0 .fit) (c .before .before .before .before .before .before .before .before .before .before .args .a) (sym (c .before .before .before .before .before .before .before .is-open .ensures) ∙ not-false _ (c .before .before .before .before .before .before .if1 .left)))) (c .before .close-levels .ensures)) (turn.release-closes (schemaOf (c .before .before .before .before .before .before .before .before .before .before .args .schema .now)) (view (schemaOf (c .before .before .before .before .before .before .before .before .before .before .args .schema .now)) (c .before .before .before .before .before .before .before .before .before .before .args .area .now)) (c .before .before .before .before .before .before .before .before .before .before .args .a) (sym (c .before .before .before .before .before .before .before .is-open .ensures) ∙ not-false _ (c .before .before .before .before .before .before .if1 .left)) (ne-eqb _ 1 (c .before .before .before .before .before .if2 .left)))
+returns-3 c =
+    let s = c .before .before .before .before .before .before .before .before .before .before in
+    let sc = schemaOf (s .args .schema .now) in
+    let is-open = c .before .before .before .before .before .before .before .is-open in
+    let if1 = c .before .before .before .before .before .before .if1 in
+    let if2 = c .before .before .before .before .before .if2 in
+    let nat-at = c .before .before .before .nat-at in
+    turn.turn-words (step.release-holds (s .pre .0 .fit) (nat-at .result) (s .args .a) (nat-at .ensures) (s .pre .1) (omega (arith, step.count-is (s .pre .0 .fit) (nat-at .ensures), step.level-below (s .pre .0 .fit) (s .args .a) (sym (is-open .ensures) ∙ not-false _ (if1 .left)))) (c .before .close-levels .ensures)) (turn.release-closes sc (view sc (s .args .area .now)) (s .args .a) (sym (is-open .ensures) ∙ not-false _ (if1 .left)) (ne-eqb _ 1 (if2 .left)))
 
 pub release-spec : {M : Type 1} → statement M
 release-spec =

@@ -23,7 +23,10 @@ same-length : tie.Need-same-length
 same-length c = search needs
 
 returns : tie.Need-returns
-returns c = turn.turn-same (c .before .before .before .before .pre .0 .ready .fit) (turn.back-refused (schemaOf (c .before .before .before .before .args .schema .now)) (view (schemaOf (c .before .before .before .before .args .schema .now)) (c .before .before .before .before .args .area .now)) (c .before .before .before .before .args .a) (sym (c .before .is-open .ensures) ∙ not-true _ (c .if1 .taken)))
+returns c =
+    let s = c .before .before .before .before in
+    let sc = schemaOf (s .args .schema .now) in
+    turn.turn-same (s .pre .0 .ready .fit) (turn.back-refused sc (view sc (s .args .area .now)) (s .args .a) (sym (c .before .is-open .ensures) ∙ not-true _ (c .if1 .taken)))
 
 nat-at-requires : tie.Need-nat-at-requires
 nat-at-requires c κs = omega (arith, step.area-long (c .before .before .before .before .before .pre .0 .ready .fit))
@@ -35,31 +38,65 @@ sub-nat-at : tie.Need-sub-nat-at
 sub-nat-at c = search needs
 
 mul-nat-at : tie.Need-mul-nat-at
-mul-nat-at c = omega (arith, step.few (c .before .before .before .before .before .before .before .before .before .pre .0 .ready .fit), (step.level-below (c .before .before .before .before .before .before .before .before .before .pre .0 .ready .fit) (c .before .before .before .before .before .before .before .before .before .args .a) (sym (c .before .before .before .before .before .before .is-open .ensures) ∙ not-false _ (c .before .before .before .before .before .if1 .left))))
+mul-nat-at c =
+    let s = c .before .before .before .before .before .before .before .before .before in
+    let is-open = c .before .before .before .before .before .before .is-open in
+    let if1 = c .before .before .before .before .before .if1 in
+    omega (arith, step.few (s .pre .0 .ready .fit), (step.level-below (s .pre .0 .ready .fit) (s .args .a) (sym (is-open .ensures) ∙ not-false _ (if1 .left))))
 
 add-nat-at : tie.Need-add-nat-at
-add-nat-at c = omega (arith, step.few (c .before .before .before .before .before .before .before .before .before .pre .0 .ready .fit), (step.level-below (c .before .before .before .before .before .before .before .before .before .pre .0 .ready .fit) (c .before .before .before .before .before .before .before .before .before .args .a) (sym (c .before .before .before .before .before .before .is-open .ensures) ∙ not-false _ (c .before .before .before .before .before .if1 .left))))
+add-nat-at c =
+    let s = c .before .before .before .before .before .before .before .before .before in
+    let is-open = c .before .before .before .before .before .before .is-open in
+    let if1 = c .before .before .before .before .before .if1 in
+    omega (arith, step.few (s .pre .0 .ready .fit), (step.level-below (s .pre .0 .ready .fit) (s .args .a) (sym (is-open .ensures) ∙ not-false _ (if1 .left))))
 
 nat-at-requires-3 : tie.Need-nat-at-requires-3
-nat-at-requires-3 c κs = omega (arith, step.few (c .before .before .before .before .before .before .before .before .before .pre .0 .ready .fit), (step.level-below (c .before .before .before .before .before .before .before .before .before .pre .0 .ready .fit) (c .before .before .before .before .before .before .before .before .before .args .a) (sym (c .before .before .before .before .before .before .is-open .ensures) ∙ not-false _ (c .before .before .before .before .before .if1 .left))), step.area-long (c .before .before .before .before .before .before .before .before .before .pre .0 .ready .fit))
+nat-at-requires-3 c κs =
+    let s = c .before .before .before .before .before .before .before .before .before in
+    let is-open = c .before .before .before .before .before .before .is-open in
+    let if1 = c .before .before .before .before .before .if1 in
+    omega (arith, step.few (s .pre .0 .ready .fit), (step.level-below (s .pre .0 .ready .fit) (s .args .a) (sym (is-open .ensures) ∙ not-false _ (if1 .left))), step.area-long (s .pre .0 .ready .fit))
 
 sub-net-to : tie.Need-sub-net-to
 sub-net-to c = search needs
 
 net-to-requires : tie.Need-net-to-requires
-net-to-requires c κs = ((step.area-long (c .before .before .before .before .before .before .before .before .before .before .before .pre .0 .ready .fit), omega (arith, step.few (c .before .before .before .before .before .before .before .before .before .before .before .pre .0 .ready .fit), (step.level-below (c .before .before .before .before .before .before .before .before .before .before .before .pre .0 .ready .fit) (c .before .before .before .before .before .before .before .before .before .before .before .args .a) (sym (c .before .before .before .before .before .before .before .before .is-open .ensures) ∙ not-false _ (c .before .before .before .before .before .before .before .if1 .left))))), (step.kept-bound (c .before .before .before .before .before .before .before .before .before .before .before .args .schema .now) (c .before .before .before .before .before .before .before .before .before .before .before .pre .0), step.saved-bound (c .before .before .before .before .before .before .before .before .before .before .before .args .schema .now) (c .before .before .before .before .before .before .before .before .before .before .before .pre .0) (c .before .before .before .before .before .before .before .before .before .before .before .args .a - 1) (omega (arith, c .before .before .before .before .before .before .before .before .before .before .before .pre .1, (step.level-below (c .before .before .before .before .before .before .before .before .before .before .before .pre .0 .ready .fit) (c .before .before .before .before .before .before .before .before .before .before .before .args .a) (sym (c .before .before .before .before .before .before .before .before .is-open .ensures) ∙ not-false _ (c .before .before .before .before .before .before .before .if1 .left)))))))
+net-to-requires c κs =
+    let s = c .before .before .before .before .before .before .before .before .before .before .before in
+    let b = s .args .schema .now in
+    let is-open = c .before .before .before .before .before .before .before .before .is-open in
+    let if1 = c .before .before .before .before .before .before .before .if1 in
+    ((step.area-long (s .pre .0 .ready .fit), omega (arith, step.few (s .pre .0 .ready .fit), (step.level-below (s .pre .0 .ready .fit) (s .args .a) (sym (is-open .ensures) ∙ not-false _ (if1 .left))))), (step.kept-bound b (s .pre .0), step.saved-bound b (s .pre .0) (s .args .a - 1) (omega (arith, s .pre .1, (step.level-below (s .pre .0 .ready .fit) (s .args .a) (sym (is-open .ensures) ∙ not-false _ (if1 .left)))))))
 
 sub-back-to : tie.Need-sub-back-to
 sub-back-to c = search needs
 
 sub-back-to-2 : tie.Need-sub-back-to-2
-sub-back-to-2 c = omega (arith, (step.level-below (c .before .before .before .before .before .before .before .before .before .before .before .before .before .pre .0 .ready .fit) (c .before .before .before .before .before .before .before .before .before .before .before .before .before .args .a) (sym (c .before .before .before .before .before .before .before .before .before .before .is-open .ensures) ∙ not-false _ (c .before .before .before .before .before .before .before .before .before .if1 .left))), step.count-is (c .before .before .before .before .before .before .before .before .before .before .before .before .before .pre .0 .ready .fit) (c .before .before .before .before .before .before .before .nat-at .ensures))
+sub-back-to-2 c =
+    let s = c .before .before .before .before .before .before .before .before .before .before .before .before .before in
+    let is-open = c .before .before .before .before .before .before .before .before .before .before .is-open in
+    let if1 = c .before .before .before .before .before .before .before .before .before .if1 in
+    let nat-at = c .before .before .before .before .before .before .before .nat-at in
+    omega (arith, (step.level-below (s .pre .0 .ready .fit) (s .args .a) (sym (is-open .ensures) ∙ not-false _ (if1 .left))), step.count-is (s .pre .0 .ready .fit) (nat-at .ensures))
 
 back-to-requires : tie.Need-back-to-requires
-back-to-requires c κs = (c .before .before .before .before .before .before .before .before .before .before .before .before .before .pre .0, (omega (arith, c .before .before .before .before .before .before .before .before .before .before .before .before .before .pre .1, (step.level-below (c .before .before .before .before .before .before .before .before .before .before .before .before .before .pre .0 .ready .fit) (c .before .before .before .before .before .before .before .before .before .before .before .before .before .args .a) (sym (c .before .before .before .before .before .before .before .before .before .before .is-open .ensures) ∙ not-false _ (c .before .before .before .before .before .before .before .before .before .if1 .left))), step.count-is (c .before .before .before .before .before .before .before .before .before .before .before .before .before .pre .0 .ready .fit) (c .before .before .before .before .before .before .before .nat-at .ensures)), c .before .before .before .nat-at3 .ensures))
+back-to-requires c κs =
+    let s = c .before .before .before .before .before .before .before .before .before .before .before .before .before in
+    let is-open = c .before .before .before .before .before .before .before .before .before .before .is-open in
+    let if1 = c .before .before .before .before .before .before .before .before .before .if1 in
+    let nat-at = c .before .before .before .before .before .before .before .nat-at in
+    let nat-at3 = c .before .before .before .nat-at3 in
+    (s .pre .0, (omega (arith, s .pre .1, (step.level-below (s .pre .0 .ready .fit) (s .args .a) (sym (is-open .ensures) ∙ not-false _ (if1 .left))), step.count-is (s .pre .0 .ready .fit) (nat-at .ensures)), nat-at3 .ensures))
 
 sub-t20 : tie.Need-sub-t20
-sub-t20 c = omega (arith, step.used-is (c .before .before .before .before .before .before .before .before .before .before .before .before .before .before .before .pre .0 .ready .fit) (c .before .before .before .before .before .before .before .nat-at2 .ensures), c .before .before .before .before .before .nat-at3 .ensures, step.base-bound (c .before .before .before .before .before .before .before .before .before .before .before .before .before .before .before .args .schema .now) (c .before .before .before .before .before .before .before .before .before .before .before .before .before .before .before .pre .0) (c .before .before .before .before .before .before .before .before .before .before .before .before .before .before .before .args .a - 1) (omega (arith, c .before .before .before .before .before .before .before .before .before .before .before .before .before .before .before .pre .1, (step.level-below (c .before .before .before .before .before .before .before .before .before .before .before .before .before .before .before .pre .0 .ready .fit) (c .before .before .before .before .before .before .before .before .before .before .before .before .before .before .before .args .a) (sym (c .before .before .before .before .before .before .before .before .before .before .before .before .is-open .ensures) ∙ not-false _ (c .before .before .before .before .before .before .before .before .before .before .before .if1 .left))))))
+sub-t20 c =
+    let s = c .before .before .before .before .before .before .before .before .before .before .before .before .before .before .before in
+    let is-open = c .before .before .before .before .before .before .before .before .before .before .before .before .is-open in
+    let if1 = c .before .before .before .before .before .before .before .before .before .before .before .if1 in
+    let nat-at2 = c .before .before .before .before .before .before .before .nat-at2 in
+    let nat-at3 = c .before .before .before .before .before .nat-at3 in
+    omega (arith, step.used-is (s .pre .0 .ready .fit) (nat-at2 .ensures), nat-at3 .ensures, step.base-bound (s .args .schema .now) (s .pre .0) (s .args .a - 1) (omega (arith, s .pre .1, (step.level-below (s .pre .0 .ready .fit) (s .args .a) (sym (is-open .ensures) ∙ not-false _ (if1 .left))))))
 
 same-length-2 : tie.Need-same-length-2
 same-length-2 c = search needs
