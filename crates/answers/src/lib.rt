@@ -34,6 +34,16 @@ pub fn refusal_number(refusal: Refusal) -> i64
     }
 }
 
+// An answer's code.
+pub fn code_of(answer: Answer) -> i64
+    ensures { λ x. ⌜ x ≡ pos (shown answer .0) ⌝ }
+{
+    match answer {
+        Answer::Done(_, _) => 0,
+        Answer::Refused(refusal) => refusal_number(refusal),
+    }
+}
+
 // An answer's code, rows changed and net.
 pub fn answer_words(answer: Answer) -> [i64; 3]
     requires { ⌜ shown answer .1 ≤ 4096 ⌝ }

@@ -15,7 +15,7 @@ ghost use Rattle.rules.specs.Engine.{makeFresh, callOn};
 ghost use Rattle.bridge.specs.Fit.{workOf};
 ghost use Rattle.bridge.specs.Ready.{Sound, Placed};
 ghost use Rattle.call_form.specs.Requests.{callOf, judged};
-ghost use Rattle.engine.specs.Calls.{RowCall, isRefused, freshArea};
+ghost use Rattle.engine.specs.Calls.{RowCall, isRefused, freshArea, areaWords};
 ghost use Rattle.engine.specs.Runs.{callWords, least, callsRun, oneRun, runCalls};
 use call_form::Request;
 use rules::Answer;
@@ -140,6 +140,17 @@ fn clear_area(schema: &[u8], area: &mut [i64]) -> Answer
 }
 
 // ---- public operations
+
+// The length of an area for a schema; 0 where the schema is refused.
+pub fn area_words(schema: &[u8]) -> usize
+    ensures { λ n. ⌜ (n ≡ areaWords (now (schema .entry))) × (n < 188750) ⌝ }
+{
+    match schema_check::check_schema(schema) {
+        SchemaAnswer::Malformed => 0,
+        SchemaAnswer::Unmatched => 0,
+        SchemaAnswer::Accepted => fields::area_length(schema),
+    }
+}
 
 // Makes an area fresh: refused by 1, 2 and 3 only.
 pub fn make_fresh(schema: &[u8], area: &mut [i64]) -> Answer
