@@ -7,7 +7,7 @@ use Prim.Native.Nat.{ℕ, zero, suc, _+_, _*_, _-_, _≤_, _<_}
 use native.Mathlib.Omega.{arith}
 use native.Mathlib.Nat.{mul-le-mul-right, add-mul}
 use lib.IntN.{ℤ}
-use lib.ListN.{length, getD, take, drop, length-drop}
+use lib.ListN.{length, take, drop, length-drop}
 use lib.Seq.{ext-getD, length-take-le, getD-take, getD-drop}
 use Rattle.schema.specs.Bounds.{Columns}
 use Rattle.rules.specs.Lists.{any, count}
@@ -132,3 +132,10 @@ module _ (a : List ℤ) (t : TableRows) (r : ℕ) (h : r < t .count) where
       ap₂ (λ xs ys. count p xs + count p ys) (ap (rowsIn a) e ∙ before-are) (ap (rowsIn a) f ∙ after-are)
       ∙ sym (count-append p (take r (rowsIn a t)) (drop (suc r) (rowsIn a t)))
       ∙ ap (count p) (sym (except-parts r (rowsIn a t)))
+
+pub parts-few : (t : TableRows) (r : ℕ) → r < t .count → {x y : TableRows} {m n : ℕ} → x ≡ rowsBefore t r → y ≡ rowsAfter t r → m ≤ x .count → n ≤ y .count → m + n ≤ t .count
+unfolding rowsBefore rowsAfter
+parts-few t r h e f l k =
+    let before = ap (λ (x : TableRows). x .count) e in
+    let after = ap (λ (x : TableRows). x .count) f in
+    omega (arith, h, before, after, l, k)

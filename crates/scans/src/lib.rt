@@ -66,7 +66,7 @@ pub fn count_with_key(
     ds: &[usize; 8],
 ) -> usize
     requires { ⌜ Standing (now area) table × (Columns (table .width) n (now cs) × Columns 9 n (now ds)) ⌝ }
-    ensures { λ x. ⌜ (x ≡ Lists.count (withKey (take n (now (cs .entry))) (take n (now (ds .entry))) (now (image .entry))) (rowsIn (now (area .entry)) table)) × (x ≤ 1024) ⌝ }
+    ensures { λ x. ⌜ (x ≡ Lists.count (withKey (take n (now (cs .entry))) (take n (now (ds .entry))) (now (image .entry))) (rowsIn (now (area .entry)) table)) × (x ≤ table .count) ⌝ }
 {
     let start = table.start;
     let w = table.width;
@@ -140,7 +140,7 @@ pub fn count_others_with_key(
     ds: &[usize; 8],
 ) -> usize
     requires { ⌜ (Standing (now area) table × (r < table .count)) × (Columns (table .width) n (now cs) × Columns 9 n (now ds)) ⌝ }
-    ensures { λ x. ⌜ (x ≡ Lists.count (withKey (take n (now (cs .entry))) (take n (now (ds .entry))) (now (image .entry))) (except r (rowsIn (now (area .entry)) table))) × (x ≤ 2048) ⌝ }
+    ensures { λ x. ⌜ (x ≡ Lists.count (withKey (take n (now (cs .entry))) (take n (now (ds .entry))) (now (image .entry))) (except r (rowsIn (now (area .entry)) table))) × (x ≤ table .count) ⌝ }
 {
     let before = rows_before(table, r);
     let m = count_with_key(area, before, image, n, cs, ds);

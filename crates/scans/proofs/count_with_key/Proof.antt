@@ -72,7 +72,7 @@ returns c =
     let l = c .before .loop in
     let P = withKey (take (s .args .n) (s .args .cs .now)) (take (s .args .n) (s .args .ds .now)) (s .args .image .now) in
     let f = count-none P (rowsIn a t) (l .j) (omega (arith, rows-many a t)) in
-    (omega arith, omega (arith, s .pre .0 .few))
+    (omega arith, omega arith)
 
 pub count-with-key-spec : {M : Type 1} → statement M
 count-with-key-spec =
