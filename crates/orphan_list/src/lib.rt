@@ -1,0 +1,26 @@
+// The orphan list: the one function that writes records into a lent slice of structs.
+ghost use mathlib.Core.Path.{_≡_};
+ghost use lib.ListN.{length};
+ghost use Rattle.schema.specs.Fields.{schemaOf};
+ghost use Rattle.rules.specs.Area.{view};
+ghost use Rattle.rules.specs.OrphanList.{listVerdict, listAnswer, ListLeft};
+use rules::Listed;
+use rules::Orphan;
+
+// Lists all orphans, or refuses by 1, 2, 3, 10 or 22 with nothing written.
+#[no_mangle]
+pub extern "C" fn list_orphans(schema: &[u8], area: &[i64], list: &mut [Orphan]) -> Listed
+    ensures { λ x. ⌜ (x ≡ listAnswer (now (schema .entry)) (now (area .entry)) (length (now (list .entry)))) × ListLeft (listVerdict (now (schema .entry)) (now (area .entry)) (length (now (list .entry)))) (schemaOf (now (schema .entry))) (view (schemaOf (now (schema .entry))) (now (area .entry)) .work .tabs) (now (list .entry)) (now (list .exit)) ⌝ }
+{
+    let plan = orphan_scan::plan_list(schema, area, list.len());
+    let answer = plan.answer;
+    let n = answer.count;
+    let mut next = plan.first;
+    let mut i = 0;
+    while i < n {
+        list[i] = next;
+        next = orphan_scan::next_orphan(schema, area, next);
+        i += 1;
+    }
+    answer
+}
