@@ -125,7 +125,10 @@ fn refused(code: usize) -> Plan
     ensures { λ x. ⌜ x ≡ refusedBy code ⌝ }
 {
     Plan {
-        answer: Listed { code: code, count: 0 },
+        answer: Listed {
+            code: code,
+            count: 0,
+        },
         first: Orphan { key: 0, row: 0 },
     }
 }
