@@ -15,7 +15,7 @@ use Rattle.rules.specs.declared.Verdict.{Verdict}
 use Rattle.rules.specs.declared.Verdict.the-variants.{Pass, Fail}
 use Rattle.rules.specs.Lists.{count}
 use Rattle.rules.specs.Area.{view}
-use Rattle.rules.specs.OrphanList.{orphanTotal, isRecord, HoldsOrphans, listVerdict, listed, listAnswer, ListLeft}
+use Rattle.rules.specs.OrphanList.{orphanTotal, isRecord, HoldsOrphans, listVerdict, listed, listAnswer, ListLeft, ListsOrphans}
 use Rattle.bridge.specs.Fit.{workOf}
 use Rattle.orphan_scan.specs.Scan.{orphansFrom, orphansAfter, FirstOf}
 use Rattle.orphan_scan.proofs.ScanLaws.{tablesIn, from-length}
@@ -56,7 +56,8 @@ module _ (os ys : List Orphan) where
           ∙ ap (λ (j : ℕ). take j os ++ drop j ys) (sym (add-one i))
 
 -- the next turn's orphan
-pub next-heads : (bs : List ℕ) (ws : List ℤ) (os : List Orphan) (n i : ℕ) {o x : Orphan} → n ≤ length os → i < n → drop i os ≡ o ∷ orphansAfter bs ws o → FirstOf bs ws (orphansAfter bs ws o) x → i + 1 < n → drop (i + 1) os ≡ x ∷ orphansAfter bs ws x
+pub next-heads : (bs : List ℕ) (ws : List ℤ) (os : List Orphan) (n i : ℕ) {o x : Orphan} → n ≤ length os → i < n
+    → drop i os ≡ o ∷ orphansAfter bs ws o → FirstOf bs ws (orphansAfter bs ws o) x → i + 1 < n → drop (i + 1) os ≡ x ∷ orphansAfter bs ws x
 next-heads bs ws os n i {o} {x} low less e f more =
     let rest : drop (i + 1) os ≡ orphansAfter bs ws o = drop-next os os i (omega (arith, low, less)) e in
     rest ∙ f .heads (omega (arith, ap length rest, length-drop (i + 1) os, low, more))
@@ -74,7 +75,9 @@ module _ (bs : List ℕ) (ws : List ℤ) where
 
   pub count-low : (room : ℕ) {r : Listed} → r ≡ listAnswer bs ws room → r .count ≤ length all
   unfolding listAnswer workOf
-  count-low room e = omega (arith, ap (λ (r : Listed). r .count) e, listed-low (listVerdict bs ws room) (orphanTotal (schemaOf bs .keys) (view (schemaOf bs) ws .work .tabs)), from-length bs ws)
+  count-low room e =
+      let low = listed-low (listVerdict bs ws room) (orphanTotal (schemaOf bs .keys) (tablesIn bs ws)) in
+      omega (arith, ap (λ (r : Listed). r .count) e, low, from-length bs ws)
 
   module _ (ys : List Orphan) (room : length all ≤ length ys) where
     whole : laid all ys (length all) ≡ all ++ drop (length all) ys
@@ -83,21 +86,20 @@ module _ (bs : List ℕ) (ws : List ℤ) where
 
     holds : (n : ℕ) → n ≡ length all → n ≡ orphanTotal (schemaOf bs .keys) (tablesIn bs ws) → HoldsOrphans (schemaOf bs) (tablesIn bs ws) ys (laid all ys n)
     holds n e t =
+        let is : laid all ys n ≡ all ++ drop (length all) ys = ap (laid all ys) e ∙ whole in
+        let written : take (orphanTotal (schemaOf bs .keys) (tablesIn bs ws)) (laid all ys n) ≡ all
+        = ap₂ (λ (m : ℕ) (l : List Orphan). take m l) (sym t ∙ e) is ∙ take-at all (drop (length all) ys) (length all) refl in
         record {
-          each = λ k r. ap₂ (λ (m : ℕ) (l : List Orphan). count (isRecord k r) (take m l)) (sym t ∙ e) (ap (laid all ys) e ∙ whole) ∙ ap (count (isRecord k r)) (take-at all (drop (length all) ys) (length all) refl) ∙ each-once bs ws k r;
-          rest = ap₂ (λ (m : ℕ) (l : List Orphan). drop m l) (sym t ∙ e) (ap (laid all ys) e ∙ whole) ∙ drop-at all (drop (length all) ys) (length all) refl ∙ ap (λ (m : ℕ). drop m ys) (sym e ∙ t);
+          each = λ k r. ap (count (isRecord k r)) written ∙ each-once bs ws k r;
+          rest = ap₂ (λ (m : ℕ) (l : List Orphan). drop m l) (sym t ∙ e) is ∙ drop-at all (drop (length all) ys) (length all) refl ∙ ap (λ (m : ℕ). drop m ys) (sym e ∙ t);
           size = laid-length all ys n (omega (arith, e)) (omega (arith, e, room));
         }
 
-  -- what the contract says of the list l that held ys
-  abbrev pub Left : List Orphan → List Orphan → Type 0
-  Left ys l = ListLeft (listVerdict bs ws (length ys)) (schemaOf bs) (view (schemaOf bs) ws .work .tabs) ys l
-
-  pub list-left : (ys : List Orphan) (r : Listed) → r ≡ listAnswer bs ws (length ys) → r .count ≤ length ys → Left ys (laid all ys (r .count))
+  pub list-left : (ys : List Orphan) (r : Listed) → r ≡ listAnswer bs ws (length ys) → r .count ≤ length ys → ListsOrphans bs ws ys (laid all ys (r .count)) r
   unfolding ListLeft listAnswer listed workOf
-  list-left ys r e low = go (listVerdict bs ws (length ys)) e
+  list-left ys r e low = record { answer = e; list = go (listVerdict bs ws (length ys)) e }
     where
-      go : (v : Verdict) → r ≡ listed v (orphanTotal (schemaOf bs .keys) (view (schemaOf bs) ws .work .tabs)) → ListLeft v (schemaOf bs) (view (schemaOf bs) ws .work .tabs) ys (laid all ys (r .count))
+      go : (v : Verdict) → r ≡ listed v (orphanTotal (schemaOf bs .keys) (tablesIn bs ws)) → ListLeft v (schemaOf bs) (tablesIn bs ws) ys (laid all ys (r .count))
       go Pass h =
           let n : r .count ≡ orphanTotal (schemaOf bs .keys) (tablesIn bs ws) = ap (λ (r : Listed). r .count) h in
           let m : r .count ≡ length all = n ∙ sym (from-length bs ws) in

@@ -1,16 +1,12 @@
 // The orphan list: the one function that writes records into a lent slice of structs.
-ghost use mathlib.Core.Path.{_≡_};
-ghost use lib.ListN.{length};
-ghost use Rattle.schema.specs.Fields.{schemaOf};
-ghost use Rattle.rules.specs.Area.{view};
-ghost use Rattle.rules.specs.OrphanList.{listVerdict, listAnswer, ListLeft};
+ghost use Rattle.rules.specs.OrphanList.{ListsOrphans};
 use rules::Listed;
 use rules::Orphan;
 
 // Lists all orphans, or refuses by 1, 2, 3, 10 or 22 with nothing written.
 #[no_mangle]
 pub extern "C" fn list_orphans(schema: &[u8], area: &[i64], list: &mut [Orphan]) -> Listed
-    ensures { λ x. ⌜ (x ≡ listAnswer (now (schema .entry)) (now (area .entry)) (length (now (list .entry)))) × ListLeft (listVerdict (now (schema .entry)) (now (area .entry)) (length (now (list .entry)))) (schemaOf (now (schema .entry))) (view (schemaOf (now (schema .entry))) (now (area .entry)) .work .tabs) (now (list .entry)) (now (list .exit)) ⌝ }
+    ensures { λ x. ⌜ ListsOrphans (now (schema .entry)) (now (area .entry)) (now (list .entry)) (now (list .exit)) x ⌝ }
 {
     let plan = orphan_scan::plan_list(schema, area, list.len());
     let answer = plan.answer;

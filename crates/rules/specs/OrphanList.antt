@@ -69,7 +69,12 @@ listed (Fail r) n = record { code = number r; count = 0 }
 unfoldable pub listAnswer : List ℕ → List ℤ → ℕ → Listed
 listAnswer bs ws room = listed (listVerdict bs ws room) (orphanTotal (schemaOf bs .keys) (view (schemaOf bs) ws .work .tabs))
 
--- what becomes of the lent list; refused, it stays as it was
+-- what becomes of a lent list that held `before`; refused, it stays as it was
 unfoldable pub ListLeft : Verdict → Schema → Tables → List Orphan → List Orphan → Type 0
 ListLeft Pass s tabs before after = HoldsOrphans s tabs before after
 ListLeft (Fail r) s tabs before after = after ≡ before
+
+-- the orphan list: the answer x, and the lent list
+pub record ListsOrphans (bs : List ℕ) (ws : List ℤ) (before after : List Orphan) (x : Listed) : Type 0 where
+  pub answer : x ≡ listAnswer bs ws (length before)
+  pub list : ListLeft (listVerdict bs ws (length before)) (schemaOf bs) (view (schemaOf bs) ws .work .tabs) before after

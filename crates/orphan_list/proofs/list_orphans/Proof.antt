@@ -24,13 +24,15 @@ use prog.Wp.{Heap, Out, Env, Calls, Loops, Wp, WpFn, Tables, afterSeq, afterBloc
 use ghost.Atoms.{Atoms, sem}
 use contract.Monad.{Fun, fact}
 use contract.Running.{givenOf, tables, tablesOf}
-use types.Kit.{Given, Item, ‵, raw, _⊛_, ⋆, some, later, runs, anyQ, atRet, Sq, _$_, _∵_, !, qed, by, move, keep, drop as discard, use1, use3, split, join, pick, rewrite, fsplit, fjoin, suffices, frame, await, done}
-use types.Run.{look, init, store, forget, stop, hop, fld, from, load, lit, of-opd, bin, and-then, no-more, assigns, assigns-last, land, first, blocks, stays, leaves-loop, returns, enter, alloc1, alloc0, params1, pass1, pass0, free1, free0, exec, Below, again, loops}
+use types.Kit.{Given, Item, ‵, raw, _⊛_, ⋆, some, later, runs, anyQ, atRet, Sq, _$_, _∵_, !, qed, by, move, keep, drop as discard}
+use types.Kit.{use1, use3, split, join, pick, rewrite, fsplit, fjoin, suffices, frame, await, done}
+use types.Run.{look, init, store, forget, stop, hop, fld, from, load, lit, of-opd, bin, and-then, no-more, assigns, assigns-last, land, first, blocks, stays, leaves-loop, returns}
+use types.Run.{enter, alloc1, alloc0, params1, pass1, pass0, free1, free0, exec, Below, again, loops}
 use types.Part.{whole, sub, look-in}
 use sound.WpLaws.{FmC, fmOf, WpFn-mono}
 use denote.RattleType.{RattleType, owns}
 use denote.Shadow.{pureI}
-use denote.Laws.{Is, shows}
+use denote.Laws.{Is, shows, Makes, Typed}
 use denote.Memory.{cellAt, pointee}
 use denote.Plain.{uint-vals, uint-tells, uint-makes}
 use denote.Builtin.{u8, usize, i64}
@@ -51,7 +53,7 @@ use denote.Triple.Walked.{says, Stays, stay-slice, stay-none-slice, walkOf, AllG
 use denote.Exit.{yes}
 use Rattle.rules.specs.declared.Orphan.{Orphan}
 use Rattle.rules.specs.declared.Listed.{Listed}
-use Rattle.rules.specs.OrphanList.{listAnswer}
+use Rattle.rules.specs.OrphanList.{listAnswer, ListsOrphans}
 use Rattle.bridge.specs.Ready.{Ready}
 use Rattle.orphan_scan.specs.declared.Plan.{Plan}
 use Rattle.orphan_scan.specs.Scan.{orphansAfter, FirstOf, Planned}
@@ -69,7 +71,7 @@ use Rattle.orphan_scan.proofs.next_orphan as g
 use Rattle.orphan_scan.proofs.next_orphan.Symbol as g-def
 use Rattle.orphan_scan.proofs.next_orphan.Symbol.{name as #next-orphan}
 use Rattle.orphan_scan.proofs.next_orphan.Met as g-thm
-use Rattle.orphan_list.proofs.ListLaws.{laid, laid-zero, laid-length, laid-next, next-heads, all, count-low, Left, list-left}
+use Rattle.orphan_list.proofs.ListLaws.{laid, laid-zero, laid-length, laid-next, next-heads, all, count-low, list-left}
 use Rattle.orphan_list.proofs.list_orphans.Key.{name as #list-orphans}
 use Rattle.orphan_list.proofs.list_orphans as f
 use Rattle.orphan_list.proofs.list_orphans.Statement as stated
@@ -95,6 +97,11 @@ place-fits room within = omega arith
 next-fits : {i n : ℕ} → n < 2 ^ 64 → i < n → i + 1 < 2 ^ 64
 next-fits h k = omega arith
 
+-- the positions i, i + 1, .. (n of them), then ks
+abbrev span : ℕ → ℕ → List ℕ → List ℕ
+span i zero ks = ks
+span i (suc n) ks = i ∷ span (suc i) n ks
+
 -- ---- the contracts that the proof cites
 abbrev PlanList : {M : Type 1} (𝓤 : URA M) (H : Heap 𝓤) (A : Atoms 𝓤) (mem : Memory → SProp 𝓤) (run : Routine → Fun 𝓤) → Contract 𝓤
 PlanList 𝓤 H A mem run = tripleOf 𝓤 H A p.signature (p.spec 𝓤 H A mem run)
@@ -112,13 +119,32 @@ machL e = vstruct (vcons (vint w64 (e .code)) (vcons (vint w64 (e .count)) vnil)
 abbrev machP : Plan → Val
 machP e = vstruct (vcons (machL (e .answer)) (vcons (machO (e .first)) vnil))
 
+-- they have their MIR types, and own nothing but facts
+module _ {M : Type 1} (𝓤 : URA M) (H : Heap 𝓤) (A : Atoms 𝓤) where
+  plain-orphan : Makes 𝓤 H A R (Is R)
+  plain-orphan = LL.makes T.the-type T′.the-plain 𝓤 H A
+
+  plain-listed : Makes 𝓤 H A Q (Is Q)
+  plain-listed = LL.makes S.the-type S′.the-plain 𝓤 H A
+
+  module _ (W : Given 𝓤 H A) where
+    typed-orphan : (e : Orphan) (vs : List Val) → Is R e vs → Typed (R .mir) vs
+    typed-orphan = LL.lawful T.the-type T′.the-laws 𝓤 H A W .typed
+
+    typed-listed : (e : Listed) (vs : List Val) → Is Q e vs → Typed (Q .mir) vs
+    typed-listed = LL.lawful S.the-type S′.the-laws 𝓤 H A W .typed
+
+    typed-plan : (e : Plan) (vs : List Val) → Is PR e vs → Typed (PR .mir) vs
+    typed-plan = LL.lawful P.the-type P′.the-laws 𝓤 H A W .typed
+
 answer-is : (x : Plan) → Is PR x (machP x ∷ []) → Is Q (x .answer) (machL (x .answer) ∷ [])
 answer-is x is = LL.owed P.the-type P′.the-laws x _ is .0
 
 first-is : (x : Plan) → Is PR x (machP x ∷ []) → Is R (x .first) (machO (x .first) ∷ [])
 first-is x is = LL.owed P.the-type P′.the-laws x _ is .1 .0
 
-module _ {M : Type 1} (𝓤 : URA M) (H : Heap 𝓤) (A : Atoms 𝓤) (W : Given 𝓤 H A) (at-mem : Memory → SProp 𝓤) (run : Routine → Fun 𝓤) (κ₀ κ₁ κ₂ : Lft) (q₀ q₁ q₂ : Share) (bs : RefT (List ℕ)) (ar : RefT (List ℤ)) (b o : ℕ) (γ : GName) (ys : List Orphan)
+module _ {M : Type 1} (𝓤 : URA M) (H : Heap 𝓤) (A : Atoms 𝓤) (W : Given 𝓤 H A) (at-mem : Memory → SProp 𝓤) (run : Routine → Fun 𝓤)
+    (κ₀ κ₁ κ₂ : Lft) (q₀ q₁ q₂ : Share) (bs : RefT (List ℕ)) (ar : RefT (List ℤ)) (b o : ℕ) (γ : GName) (ys : List Orphan)
     (bs-room : Room u8 (length (now bs))) (ar-room : Room i64 (length (now ar))) (room : Room R (length ys)) where
   -- the borrow at the list l, all orphans, and the list after i turns
   abbrev x : List Orphan → RefT (List Orphan)
@@ -158,6 +184,10 @@ module _ {M : Type 1} (𝓤 : URA M) (H : Heap 𝓤) (A : Atoms 𝓤) (W : Given
   abbrev OwnA : Fml
   OwnA = ShrSlice (named 1) κ₁ i64 .own ar (av ∷ [])
 
+  -- what a call takes: the tokens, and what the shared slices own
+  abbrev Lent : List (Item 𝓤)
+  Lent = (‵ (flft κ₀ q₀) ⊛ ‵ (flft κ₁ q₁)) ∷ ‵ OwnB ∷ ‵ OwnA ∷ []
+
   -- the list's borrow at l
   abbrev Obs : List Orphan → Item 𝓤
   Obs l = ‵ (fobs γ (codedHoleys R .code (heres R l)))
@@ -168,21 +198,25 @@ module _ {M : Type 1} (𝓤 : URA M) (H : Heap 𝓤) (A : Atoms 𝓤) (W : Given
   abbrev answer : Listed
   answer = listAnswer (now bs) (now ar) (length ys)
 
+  -- what is left at the end, at the list l
+  abbrev End : List Orphan → List (Item 𝓤)
+  End l = Obs l ∷ Bor l ∷ ‵ (flft κ₂ q₂) ∷ ‵ (flft κ₀ q₀) ∷ ‵ (flft κ₁ q₁) ∷ ‵ OwnB ∷ ‵ OwnA ∷ []
+
   exits : (r : Listed) (i : ℕ) → Is Q r (machL r ∷ []) → r ≡ answer → r .count ≤ length ys → i ≡ r .count
-      → ent 𝓤 (⋆ 𝓤 H A (Obs (L i) ∷ Bor (L i) ∷ ‵ (flft κ₂ q₂) ∷ ‵ (flft κ₀ q₀) ∷ ‵ (flft κ₁ q₁) ∷ ‵ OwnB ∷ ‵ OwnA ∷ [])) (Post (machL r))
+      → ent 𝓤 (⋆ 𝓤 H A (End (L i))) (Post (machL r))
   exits r i is e low at-end =
-      qed W (Obs (L i) ∷ Bor (L i) ∷ ‵ (flft κ₂ q₂) ∷ ‵ (flft κ₀ q₀) ∷ ‵ (flft κ₁ q₁) ∷ ‵ OwnB ∷ ‵ OwnA ∷ []) ∵
+      qed W (End (L i)) ∵
       suffices ! _ (ends-at 𝓤 H A f.ended stayed (f.clauses 𝓤 H A at-mem run) W (((κ₀, (κ₁, (κ₂, tt))), (q₀, (q₁, (q₂, tt))), tt, a, vals), tt) (machL r) r (tt, (tt, (L i, tt))) (tt, (tt, (same, tt)))) $
-      says ! (e, left) $
+      says ! left $
       nothing ! $ move ! (3 ∷ 0 ∷ []) $ join ! $ move ! (4 ∷ 0 ∷ []) $ join ! $ move ! (3 ∷ 0 ∷ []) $ join ! $ frame ! $
       fjoin ! $ pureI ! (at-slice R (x (L i)) (s ∷ [])) (tt, (tt, tt)) (ap (λ (m : ℕ). sliceVal (b, o) m ∷ []) (sym same), subst (Room R) (sym same) room) $ fjoin ! $
-      nothing ! $ move ! (1 ∷ 0 ∷ []) $ fjoin ! $ move ! (2 ∷ 0 ∷ []) $ fjoin ! $ move ! (1 ∷ 0 ∷ []) $ fjoin ! $ owned ! Q (Is Q) (LL.makes S.the-type S′.the-plain 𝓤 H A) r _ is $ move ! (1 ∷ 0 ∷ []) $ done !
+      nothing ! $ move ! (1 ∷ 0 ∷ []) $ fjoin ! $ move ! (2 ∷ 0 ∷ []) $ fjoin ! $ move ! (1 ∷ 0 ∷ []) $ fjoin ! $ owned ! Q (Is Q) (plain-listed 𝓤 H A) r _ is $ move ! (1 ∷ 0 ∷ []) $ done !
     where
       same : length (L i) ≡ length ys
       same = laid-length os ys i (omega (arith, at-end, count-low (now bs) (now ar) (length ys) e)) (omega (arith, at-end, low))
 
-      left : Left (now bs) (now ar) ys (L i)
-      left = subst (λ (k : ℕ). Left (now bs) (now ar) ys (L k)) (sym at-end) (list-left (now bs) (now ar) ys r e low)
+      left : ListsOrphans (now bs) (now ar) ys (L i) r
+      left = subst (λ (k : ℕ). ListsOrphans (now bs) (now ar) ys (L k) r) (sym at-end) (list-left (now bs) (now ar) ys r e low)
 
   -- ---- the calls: what a callee's triple binds outside, what it asks at entry, and what it ensures
   abbrev to-plan : ℕ → PlanList 𝓤 H A at-mem run .Ghost
@@ -191,21 +225,38 @@ module _ {M : Type 1} (𝓤 : URA M) (H : Heap 𝓤) (A : Atoms 𝓤) (W : Given
   abbrev to-next : Orphan → NextOrphan 𝓤 H A at-mem run .Ghost
   to-next e = (((κ₀, (κ₁, tt)), (q₀, (q₁, tt)), tt, (bs, (ar, (e, tt))), (bv ∷ [], (av ∷ [], (machO e ∷ [], tt)))), tt)
 
-  goes-plan : (k : ℕ) → k < 2 ^ 64 → ent 𝓤 (⋆ 𝓤 H A ((‵ (flft κ₀ q₀) ⊛ ‵ (flft κ₁ q₁)) ∷ ‵ OwnB ∷ ‵ OwnA ∷ [])) (PlanList 𝓤 H A at-mem run .pre (to-plan k))
+  goes-plan : (k : ℕ) → k < 2 ^ 64 → ent 𝓤 (⋆ 𝓤 H A Lent) (PlanList 𝓤 H A at-mem run .pre (to-plan k))
   goes-plan k fits =
-      qed W ((‵ (flft κ₀ q₀) ⊛ ‵ (flft κ₁ q₁)) ∷ ‵ OwnB ∷ ‵ OwnA ∷ []) ∵ split ! $ nothing ! $ move ! (2 ∷ 0 ∷ []) $ join ! $ move ! (1 ∷ 0 ∷ []) $ join ! $
+      qed W Lent ∵ split ! $ nothing ! $ move ! (2 ∷ 0 ∷ []) $ join ! $ move ! (1 ∷ 0 ∷ []) $ join ! $
       nothing ! $ owned ! usize (Is usize) (uint-makes 𝓤 H A W w64) k _ (refl, fits) $ fjoin ! $ move ! (3 ∷ 0 ∷ []) $ fjoin ! $ move ! (2 ∷ 0 ∷ []) $ fjoin ! $ move ! (1 ∷ 0 ∷ []) $ join ! $ frame ! $ done !
 
-  goes-next : (e : Orphan) → Is R e (machO e ∷ []) → Ready (now bs) (now ar) → e .row < 1024 → ent 𝓤 (⋆ 𝓤 H A ((‵ (flft κ₀ q₀) ⊛ ‵ (flft κ₁ q₁)) ∷ ‵ OwnB ∷ ‵ OwnA ∷ [])) (NextOrphan 𝓤 H A at-mem run .pre (to-next e))
+  goes-next : (e : Orphan) → Is R e (machO e ∷ []) → Ready (now bs) (now ar) → e .row < 1024 → ent 𝓤 (⋆ 𝓤 H A Lent) (NextOrphan 𝓤 H A at-mem run .pre (to-next e))
   goes-next e is ready small =
-      qed W ((‵ (flft κ₀ q₀) ⊛ ‵ (flft κ₁ q₁)) ∷ ‵ OwnB ∷ ‵ OwnA ∷ []) ∵ says ! (ready, small) $ split ! $ nothing ! $ move ! (2 ∷ 0 ∷ []) $ join ! $ move ! (1 ∷ 0 ∷ []) $ join ! $
-      nothing ! $ owned ! R (Is R) (LL.makes T.the-type T′.the-plain 𝓤 H A) e _ is $ fjoin ! $ move ! (3 ∷ 0 ∷ []) $ fjoin ! $ move ! (2 ∷ 0 ∷ []) $ fjoin ! $ move ! (1 ∷ 0 ∷ []) $ done !
+      qed W Lent ∵ says ! (ready, small) $ split ! $ nothing ! $ move ! (2 ∷ 0 ∷ []) $ join ! $ move ! (1 ∷ 0 ∷ []) $ join ! $
+      nothing ! $ owned ! R (Is R) (plain-orphan 𝓤 H A) e _ is $ fjoin ! $ move ! (3 ∷ 0 ∷ []) $ fjoin ! $ move ! (2 ∷ 0 ∷ []) $ fjoin ! $ move ! (1 ∷ 0 ∷ []) $ done !
 
-  said-plan : (k : ℕ) (r : Plan) → ent 𝓤 (ensured 𝓤 H A p.ended (p.clauses 𝓤 H A at-mem run) (κ₀, (κ₁, tt)) (bs, (ar, (k, tt))) tt r) (fact 𝓤 (Planned (now bs) (now ar) k r))
+  abbrev told-plan : ℕ → Plan → SProp 𝓤
+  told-plan k r = ensured 𝓤 H A p.ended (p.clauses 𝓤 H A at-mem run) (κ₀, (κ₁, tt)) (bs, (ar, (k, tt))) tt r
+
+  abbrev told-next : Orphan → Orphan → SProp 𝓤
+  told-next e r = ensured 𝓤 H A g.ended (g.clauses 𝓤 H A at-mem run) (κ₀, (κ₁, tt)) (bs, (ar, (e, tt))) tt r
+
+  -- r follows e
+  abbrev Follows : Orphan → Orphan → Type 0
+  Follows e r = FirstOf (now bs) (now ar) (orphansAfter (now bs) (now ar) e) r
+
+  said-plan : (k : ℕ) (r : Plan) → ent 𝓤 (told-plan k r) (fact 𝓤 (Planned (now bs) (now ar) k r))
   said-plan k r = exE 𝓤 _ (λ ws. snd∗ 𝓤 (sem 𝓤 H A (lasts p.ended (κ₀, (κ₁, tt)) (bs, (ar, (k, tt))) ws)) (fact 𝓤 (Planned (now bs) (now ar) k r)))
 
-  said-next : (e r : Orphan) → ent 𝓤 (ensured 𝓤 H A g.ended (g.clauses 𝓤 H A at-mem run) (κ₀, (κ₁, tt)) (bs, (ar, (e, tt))) tt r) (fact 𝓤 (FirstOf (now bs) (now ar) (orphansAfter (now bs) (now ar) e) r))
-  said-next e r = exE 𝓤 _ (λ ws. snd∗ 𝓤 (sem 𝓤 H A (lasts g.ended (κ₀, (κ₁, tt)) (bs, (ar, (e, tt))) ws)) (fact 𝓤 (FirstOf (now bs) (now ar) (orphansAfter (now bs) (now ar) e) r)))
+  said-next : (e r : Orphan) → ent 𝓤 (told-next e r) (fact 𝓤 (Follows e r))
+  said-next e r = exE 𝓤 _ (λ ws. snd∗ 𝓤 (sem 𝓤 H A (lasts g.ended (κ₀, (κ₁, tt)) (bs, (ar, (e, tt))) ws)) (fact 𝓤 (Follows e r)))
+
+  -- what a shared slice owns is had twice
+  two-bytes : ent 𝓤 (⋆ 𝓤 H A (‵ OwnB ∷ [])) (⋆ 𝓤 H A ((‵ OwnB ⊛ ‵ OwnB) ∷ []))
+  two-bytes = shr-slice-copy 𝓤 H A W (named 0) κ₀ u8 .twice bs (bv ∷ [])
+
+  two-areas : ent 𝓤 (⋆ 𝓤 H A (‵ OwnA ∷ [])) (⋆ 𝓤 H A ((‵ OwnA ⊛ ‵ OwnA) ∷ []))
+  two-areas = shr-slice-copy 𝓤 H A W (named 1) κ₁ i64 .twice ar (av ∷ [])
 
   abbrev word : Ty
   word = tyInt w64
@@ -236,7 +287,7 @@ module _ {M : Type 1} (𝓤 : URA M) (H : Heap 𝓤) (A : Atoms 𝓤) (W : Given
         ∷ ‵ (fat fullShare word l₉ 0 (vint w64 (length ys))) ∷ ‵ (fdies word l₉) ∷ v₈ ∷ ‵ (fdies word l₈) ∷ v₇ ∷ ‵ (fdies T′.mir l₇) ∷ v₆ ∷ ‵ (fdies word l₆) ∷ v₅ ∷ ‵ (fdies S′.mir l₅) ∷ v₄ ∷ ‵ (fdies P′.mir l₄)
         ∷ ‵ (fat fullShare listTy l₃ 0 s) ∷ ‵ (fdies listTy l₃) ∷ ‵ (fat fullShare areaTy l₂ 0 av) ∷ ‵ (fdies areaTy l₂) ∷ ‵ (fat fullShare bytesTy l₁ 0 bv) ∷ ‵ (fdies bytesTy l₁)
         ∷ ‵ (froom S′.mir l₀ 0) ∷ ‵ (fdies S′.mir l₀)
-        ∷ Obs l ∷ Bor l ∷ ‵ (flft κ₂ q₂) ∷ ‵ (flft κ₀ q₀) ∷ ‵ (flft κ₁ q₁) ∷ ‵ OwnB ∷ ‵ OwnA ∷ []
+        ∷ End l
 
     -- ---- the loop, once `plan_list` has answered r
     module _ (r : Plan) (r-is : Is PR r (machP r ∷ [])) (r-ok : Planned (now bs) (now ar) (length ys) r) where
@@ -285,26 +336,26 @@ module _ {M : Type 1} (𝓤 : URA M) (H : Heap 𝓤) (A : Atoms 𝓤) (W : Given
           move ! (26 ∷ 27 ∷ 28 ∷ []) $ opens-slice ! tt R (L (u .i)) b o $ elem-out ! R (Is R) (shows 𝓤 H A R) (LL.vals T.the-type T′.the-laws) (LL.tells T.the-type T′.the-laws) fullShare (L (u .i)) (u .i) none b o in-L (λ _.
           use1 W (‵ (fat fullShare T′.mir b (place 16 o (u .i)) (machO (getD (L (u .i)) (u .i) none)))) (W .laws .raw-at fullShare T′.mir b (place 16 o (u .i)) (machO (getD (L (u .i)) (u .i) none))) $
           -- [list[i]; what it owns; the others; the open borrow; obs; auth; _12; …]
-          assigns ! (of-opd ! (load ! (from ! (stop !)) (look ! 16 refl))) (from ! (hop ! (look ! 6 refl) (stop !))) (store ! 0 refl (LL.lawful T.the-type T′.the-laws 𝓤 H A W .typed (u .next) _ (u .is) .0)) $
+          assigns ! (of-opd ! (load ! (from ! (stop !)) (look ! 16 refl))) (from ! (hop ! (look ! 6 refl) (stop !))) (store ! 0 refl (typed-orphan 𝓤 H A W (u .next) _ (u .is) .0)) $
           use1 W (‵ (cellAt fullShare (R .mir) (machO (u .next) ∷ []) b (place 16 o (u .i)))) (W .laws .at-raw fullShare T′.mir b (place 16 o (u .i)) (machO (u .next))) $
-          move ! (1 ∷ []) $ discard ! $ owned ! R (Is R) (LL.makes T.the-type T′.the-plain 𝓤 H A) (u .next) _ (u .is) $ move ! (1 ∷ 0 ∷ []) $ elem-put ! R fullShare (L (u .i)) (u .i) (u .next) (machO (u .next) ∷ []) b o in-L $
+          move ! (1 ∷ []) $ discard ! $ owned ! R (Is R) (plain-orphan 𝓤 H A) (u .next) _ (u .is) $ move ! (1 ∷ 0 ∷ []) $ elem-put ! R fullShare (L (u .i)) (u .i) (u .next) (machO (u .next) ∷ []) b o in-L $
           closes-slice ! tt R (L (u .i)) (set (L (u .i)) (u .i) (u .next)) (length-set (L (u .i)) (u .i) (u .next)) b o $
           rewrite ! 0 Obs (written) refl $ rewrite ! 1 Bor (written) refl $
           -- [obs; the borrow; the token; _12; …; bytes's token; area's token; what bytes owns; what area owns]: the call, with copies of what the shared slices own
-          move ! (31 ∷ []) $ use1 W (‵ OwnB ⊛ ‵ OwnB) (shr-slice-copy 𝓤 H A W (named 0) κ₀ u8 .twice bs (bv ∷ [])) $ split ! $
-          move ! (33 ∷ []) $ use1 W (‵ OwnA ⊛ ‵ OwnA) (shr-slice-copy 𝓤 H A W (named 1) κ₁ i64 .twice ar (av ∷ [])) $ split ! $
+          move ! (31 ∷ []) $ use1 W (‵ OwnB ⊛ ‵ OwnB) two-bytes $ split ! $
+          move ! (33 ∷ []) $ use1 W (‵ OwnA ⊛ ‵ OwnA) two-areas $ split ! $
           move ! (33 ∷ 34 ∷ 2 ∷ 0 ∷ []) $ join ! $ use3 W (raw (NextOrphan 𝓤 H A at-mem run .pre (to-next (u .next)))) (goes-next (u .next) (u .is) ready (u .small)) $
           calls-at ! (fmOf 𝓤 H (W .laws) 𝓣) (NextOrphan 𝓤 H A at-mem run) known-next (to-next (u .next)) (and-then ! (load ! (from ! (stop !)) (look ! 28 refl)) (and-then ! (load ! (from ! (stop !)) (look ! 26 refl)) (and-then ! (load ! (from ! (stop !)) (look ! 16 refl)) (no-more !)))) (λ v.
-          use1 W (later (some (λ (e : Orphan). ((‵ (flft κ₀ q₀) ⊛ ‵ (flft κ₁ q₁) ⊛ ‵ ftrue) ⊛ ‵ (R .own e (v ∷ []))) ⊛ raw (ensured 𝓤 H A g.ended (g.clauses 𝓤 H A at-mem run) (κ₀, (κ₁, tt)) (bs, (ar, (u .next, tt))) tt e)))) (id⊢ 𝓤 _) $ await ! tt $ pick ! (λ e.
-          split ! $ move ! (1 ∷ []) $ use1 W (raw (fact 𝓤 (FirstOf (now bs) (now ar) (orphansAfter (now bs) (now ar) (u .next)) e))) (said-next (u .next) e) $ heard ! (FirstOf (now bs) (now ar) (orphansAfter (now bs) (now ar) (u .next)) e) (λ e-ok. split ! $ split ! $ move ! (1 ∷ []) $ split ! $ move ! (3 ∷ []) $
+          use1 W (later (some (λ (e : Orphan). ((‵ (flft κ₀ q₀) ⊛ ‵ (flft κ₁ q₁) ⊛ ‵ ftrue) ⊛ ‵ (R .own e (v ∷ []))) ⊛ raw (told-next (u .next) e)))) (id⊢ 𝓤 _) $ await ! tt $ pick ! (λ e.
+          split ! $ move ! (1 ∷ []) $ use1 W (raw (fact 𝓤 (Follows (u .next) e))) (said-next (u .next) e) $ heard ! (Follows (u .next) e) (λ e-ok. split ! $ split ! $ move ! (1 ∷ []) $ split ! $ move ! (3 ∷ []) $
           peeks ! R (Is R) (shows 𝓤 H A R) e (v ∷ []) (λ e-is.
           -- [what the record owns; area's token; true; bytes's token; what area owns; what bytes owns; obs; the borrow; the token; _12; …]
-          land ! (from ! (stop !)) (store ! 19 refl (LL.lawful T.the-type T′.the-laws 𝓤 H A W .typed e _ e-is .0)) $
-          rewrite ! 19 (λ (w : Val). ‵ (fat fullShare T′.mir l₇ 0 w)) (ap only (LL.tells T.the-type T′.the-laws e (v ∷ []) e-is)) refl $
+          land ! (from ! (stop !)) (store ! 19 refl (typed-orphan 𝓤 H A W e _ e-is .0)) $
+          rewrite ! 19 (λ (w : Val). ‵ (fat fullShare T′.mir l₇ 0 w)) (ap only (LL.tells T.the-type T′.the-laws e _ e-is)) refl $
           assigns-last ! (bin ! (load ! (from ! (stop !)) (look ! 17 refl)) (lit ! tt) (record { fits = next-fits n-fits less })) (from ! (stop !)) (store ! 17 refl (tt, record { fits = next-fits n-fits less })) $
           forget ! 9 refl $ forget ! 11 refl $ forget ! 13 refl $
-          keep ! (9 ∷ 10 ∷ 11 ∷ 12 ∷ 13 ∷ 14 ∷ 15 ∷ 16 ∷ 17 ∷ 18 ∷ 19 ∷ 20 ∷ 21 ∷ 22 ∷ 23 ∷ 24 ∷ 25 ∷ 26 ∷ 27 ∷ 28 ∷ 29 ∷ 30 ∷ 31 ∷ 32 ∷ 33 ∷ 34 ∷ 6 ∷ 7 ∷ 8 ∷ 3 ∷ 1 ∷ 5 ∷ 4 ∷ []) $
-          again ! Nearer At u (after e e-ok (subst (Is R e) (LL.tells T.the-type T′.the-laws e (v ∷ []) e-is) e-is)) (omega (arith, less)))))))
+          keep ! (span 9 26 (6 ∷ 7 ∷ 8 ∷ 3 ∷ 1 ∷ 5 ∷ 4 ∷ [])) $
+          again ! Nearer At u (after e e-ok (subst (Is R e) (LL.tells T.the-type T′.the-laws e _ e-is) e-is)) (omega (arith, less)))))))
         where
           none : Orphan
           none = record { key = 0; row = 0 }
@@ -327,7 +378,7 @@ module _ {M : Type 1} (𝓤 : URA M) (H : Heap 𝓤) (A : Atoms 𝓤) (W : Given
           written : set (L (u .i)) (u .i) (u .next) ≡ L (u .i + 1)
           written = laid-next os ys (u .i) in-all (u .heads less) in-list
 
-          after : (e : Orphan) → FirstOf (now bs) (now ar) (orphansAfter (now bs) (now ar) (u .next)) e → Is R e (machO e ∷ []) → Turn
+          after : (e : Orphan) → Follows (u .next) e → Is R e (machO e ∷ []) → Turn
           after e e-ok e-is = record { i = u .i + 1; next = e; low = omega (arith, less); is = e-is; small = e-ok .small; heads = next-heads (now bs) (now ar) os n (u .i) n-low less (u .heads less) e-ok }
 
       -- the turn that leaves the loop, and the rest of the body
@@ -337,7 +388,7 @@ module _ {M : Type 1} (𝓤 : URA M) (H : Heap 𝓤) (A : Atoms 𝓤) (W : Given
           assigns ! (bin ! (load ! (from ! (stop !)) (look ! 8 refl)) (load ! (from ! (stop !)) (look ! 12 refl)) tt) (from ! (stop !)) (init ! 4 refl (tt, tt)) $
           rewrite ! 4 (λ (y : Bool). ‵ (fat fullShare tyBool l₁₀ 0 (vbool y))) t refl $
           leaves-loop ! (load ! (from ! (stop !)) (look ! 4 refl)) $ exec ! C Λ En body.t-8 (atRet En Post) $
-          assigns ! (of-opd ! (load ! (from ! (stop !)) (look ! 14 refl))) (from ! (stop !)) (init ! 24 refl (LL.lawful S.the-type S′.the-laws 𝓤 H A W .typed (r .answer) _ (answer-is r r-is) .0)) $
+          assigns ! (of-opd ! (load ! (from ! (stop !)) (look ! 14 refl))) (from ! (stop !)) (init ! 24 refl (typed-listed 𝓤 H A W (r .answer) _ (answer-is r r-is) .0)) $
           returns ! (look ! 24 refl) $ forget ! 4 refl $ forget ! 6 refl $ forget ! 8 refl $ forget ! 10 refl $ forget ! 12 refl $ forget ! 14 refl $ forget ! 16 refl $ forget ! 18 refl $ forget ! 20 refl $ forget ! 22 refl $ forget ! 24 refl $
           move ! (24 ∷ 25 ∷ []) $ free1 ! $ move ! (22 ∷ 23 ∷ []) $ free1 ! $ move ! (20 ∷ 21 ∷ []) $ free1 ! $ move ! (18 ∷ 19 ∷ []) $ free1 ! $ move ! (16 ∷ 17 ∷ []) $ free1 ! $ move ! (14 ∷ 15 ∷ []) $ free1 ! $ move ! (12 ∷ 13 ∷ []) $ free1 ! $ move ! (10 ∷ 11 ∷ []) $ free1 ! $ move ! (8 ∷ 9 ∷ []) $ free1 ! $ move ! (6 ∷ 7 ∷ []) $ free1 ! $ move ! (4 ∷ 5 ∷ []) $ free1 ! $ move ! (2 ∷ 3 ∷ []) $ free1 ! $ move ! (0 ∷ 1 ∷ []) $ free1 ! $ free0 ! $
           by ! (exits (r .answer) (u .i) (answer-is r r-is) (r-ok .answer-is) (r-ok .fits) (le-antisymm (u .low) (ltb-false (u .i) n t)))
@@ -358,26 +409,26 @@ module _ {M : Type 1} (𝓤 : URA M) (H : Heap 𝓤) (A : Atoms 𝓤) (W : Given
       -- the locals that the plan gives
       sets : Sq W (Cx (‵ (fat fullShare P′.mir l₄ 0 (machP r))) (‵ (froom S′.mir l₅ 0)) (‵ (froom word l₆ 0)) (‵ (froom T′.mir l₇ 0)) (‵ (froom word l₈ 0)) (L 0)) (runs C Λ En body.t-3 (atRet En Post))
       sets =
-          assigns ! (of-opd ! (load ! (from ! (fld ! refl (stop !))) (look-in ! 16 (sub ! 0 refl (whole !))))) (from ! (stop !)) (init ! 14 refl (LL.lawful S.the-type S′.the-laws 𝓤 H A W .typed (r .answer) _ (answer-is r r-is) .0)) $
+          assigns ! (of-opd ! (load ! (from ! (fld ! refl (stop !))) (look-in ! 16 (sub ! 0 refl (whole !))))) (from ! (stop !)) (init ! 14 refl (typed-listed 𝓤 H A W (r .answer) _ (answer-is r r-is) .0)) $
           assigns ! (of-opd ! (load ! (from ! (fld ! refl (stop !))) (look-in ! 14 (sub ! 1 refl (whole !))))) (from ! (stop !)) (init ! 12 refl (tt, record { fits = n-fits })) $
-          assigns ! (of-opd ! (load ! (from ! (fld ! refl (stop !))) (look-in ! 16 (sub ! 1 refl (whole !))))) (from ! (stop !)) (init ! 10 refl (LL.lawful T.the-type T′.the-laws 𝓤 H A W .typed (r .first) _ (first-is r r-is) .0)) $
+          assigns ! (of-opd ! (load ! (from ! (fld ! refl (stop !))) (look-in ! 16 (sub ! 1 refl (whole !))))) (from ! (stop !)) (init ! 10 refl (typed-orphan 𝓤 H A W (r .first) _ (first-is r r-is) .0)) $
           assigns ! (of-opd ! (lit ! tt)) (from ! (stop !)) (init ! 8 refl (tt, record { fits = lit< tt })) $
           looped
 
     -- ---- from the call of `plan_list` to the loop
     planned : Sq W (Cx (‵ (froom P′.mir l₄ 0)) (‵ (froom S′.mir l₅ 0)) (‵ (froom word l₆ 0)) (‵ (froom T′.mir l₇ 0)) (‵ (froom word l₈ 0)) (L 0)) (runs C Λ En body.t-2 (atRet En Post))
     planned =
-        move ! (31 ∷ []) $ use1 W (‵ OwnB ⊛ ‵ OwnB) (shr-slice-copy 𝓤 H A W (named 0) κ₀ u8 .twice bs (bv ∷ [])) $ split ! $
-        move ! (33 ∷ []) $ use1 W (‵ OwnA ⊛ ‵ OwnA) (shr-slice-copy 𝓤 H A W (named 1) κ₁ i64 .twice ar (av ∷ [])) $ split ! $
+        move ! (31 ∷ []) $ use1 W (‵ OwnB ⊛ ‵ OwnB) two-bytes $ split ! $
+        move ! (33 ∷ []) $ use1 W (‵ OwnA ⊛ ‵ OwnA) two-areas $ split ! $
         move ! (33 ∷ 34 ∷ 2 ∷ 0 ∷ []) $ join ! $ use3 W (raw (PlanList 𝓤 H A at-mem run .pre (to-plan (length ys)))) (goes-plan (length ys) (room .0)) $
         calls-at ! (fmOf 𝓤 H (W .laws) 𝓣) (PlanList 𝓤 H A at-mem run) known-plan (to-plan (length ys)) (and-then ! (load ! (from ! (stop !)) (look ! 25 refl)) (and-then ! (load ! (from ! (stop !)) (look ! 23 refl)) (and-then ! (load ! (from ! (stop !)) (look ! 9 refl)) (no-more !)))) (λ v.
-        use1 W (later (some (λ (r : Plan). ((‵ (flft κ₀ q₀) ⊛ ‵ (flft κ₁ q₁) ⊛ ‵ ftrue) ⊛ ‵ (PR .own r (v ∷ []))) ⊛ raw (ensured 𝓤 H A p.ended (p.clauses 𝓤 H A at-mem run) (κ₀, (κ₁, tt)) (bs, (ar, (length ys, tt))) tt r)))) (id⊢ 𝓤 _) $ await ! tt $ pick ! (λ r.
+        use1 W (later (some (λ (r : Plan). ((‵ (flft κ₀ q₀) ⊛ ‵ (flft κ₁ q₁) ⊛ ‵ ftrue) ⊛ ‵ (PR .own r (v ∷ []))) ⊛ raw (told-plan (length ys) r)))) (id⊢ 𝓤 _) $ await ! tt $ pick ! (λ r.
         split ! $ move ! (1 ∷ []) $ use1 W (raw (fact 𝓤 (Planned (now bs) (now ar) (length ys) r))) (said-plan (length ys) r) $ heard ! (Planned (now bs) (now ar) (length ys) r) (λ r-ok. split ! $ split ! $ move ! (1 ∷ []) $ split ! $ move ! (3 ∷ []) $
         peeks ! PR (Is PR) (shows 𝓤 H A PR) r (v ∷ []) (λ is.
-        land ! (from ! (stop !)) (init ! 22 refl (LL.lawful P.the-type P′.the-laws 𝓤 H A W .typed r _ is .0)) $
-        rewrite ! 22 (λ (w : Val). ‵ (fat fullShare P′.mir l₄ 0 w)) (ap only (LL.tells P.the-type P′.the-laws r (v ∷ []) is)) refl $
-        keep ! (6 ∷ 7 ∷ 8 ∷ 9 ∷ 10 ∷ 11 ∷ 12 ∷ 13 ∷ 14 ∷ 15 ∷ 16 ∷ 17 ∷ 18 ∷ 19 ∷ 20 ∷ 21 ∷ 22 ∷ 23 ∷ 24 ∷ 25 ∷ 26 ∷ 27 ∷ 28 ∷ 29 ∷ 30 ∷ 31 ∷ 32 ∷ 33 ∷ 34 ∷ 3 ∷ 1 ∷ 5 ∷ 4 ∷ []) $
-        sets r (subst (Is PR r) (LL.tells P.the-type P′.the-laws r (v ∷ []) is) is) r-ok))))
+        land ! (from ! (stop !)) (init ! 22 refl (typed-plan 𝓤 H A W r _ is .0)) $
+        rewrite ! 22 (λ (w : Val). ‵ (fat fullShare P′.mir l₄ 0 w)) (ap only (LL.tells P.the-type P′.the-laws r _ is)) refl $
+        keep ! (span 6 29 (3 ∷ 1 ∷ 5 ∷ 4 ∷ [])) $
+        sets r (subst (Is PR r) (LL.tells P.the-type P′.the-laws r _ is) is) r-ok))))
 
   -- the MIR up to that call
   walk : (𝓣 : Tables 𝓤 H) → Triple 𝓤 (𝓣 .C #plan-list) (PlanList 𝓤 H A at-mem run) → Triple 𝓤 (𝓣 .C #next-orphan) (NextOrphan 𝓤 H A at-mem run)
@@ -393,7 +444,7 @@ module _ {M : Type 1} (𝓤 : URA M) (H : Heap 𝓤) (A : Atoms 𝓤) (W : Given
       move ! (32 ∷ []) $ split ! $ move ! (1 ∷ []) $ split ! $ move ! (1 ∷ []) $ split ! $
       -- [the token; true; area's token; bytes's token; obs; the borrow; list's fact; true; what area owns; what bytes owns; _12; …]
       rewrite ! 4 Obs (laid-zero os ys) refl $ rewrite ! 5 Bor (laid-zero os ys) refl $
-      keep ! (10 ∷ 11 ∷ 12 ∷ 13 ∷ 14 ∷ 15 ∷ 16 ∷ 17 ∷ 18 ∷ 19 ∷ 20 ∷ 21 ∷ 22 ∷ 23 ∷ 24 ∷ 25 ∷ 26 ∷ 27 ∷ 28 ∷ 29 ∷ 30 ∷ 31 ∷ 32 ∷ 33 ∷ 34 ∷ 35 ∷ 4 ∷ 5 ∷ 0 ∷ 3 ∷ 2 ∷ 9 ∷ 8 ∷ []) $
+      keep ! (span 10 26 (4 ∷ 5 ∷ 0 ∷ 3 ∷ 2 ∷ 9 ∷ 8 ∷ [])) $
       planned 𝓣 known-plan known-next l₀ l₁ l₂ l₃ l₄ l₅ l₆ l₇ l₈ l₉ l₁₀ l₁₁ l₁₂)))))))))))))
 
 module _ {M : Type 1} (𝓤 : URA M) (H : Heap 𝓤) (A : Atoms 𝓤) (W : Given 𝓤 H A) (at-mem : Memory → SProp 𝓤) (run : Routine → Fun 𝓤) where
