@@ -1,6 +1,6 @@
 -- The lent list while it is written, and at the end.
 -- Assumes nothing.
-use mathlib.Core.Path.{_≡_, refl, sym, ap, ap₂, subst, _∙_}
+use mathlib.Core.Path.{_≡_, refl, sym, ap, ap₂, _∙_}
 use mathlib.Core.List.{List, [], _∷_, _++_}
 use Prim.Native.Nat.{ℕ, suc, _+_, _≤_, _<_}
 use native.Mathlib.Numerals.{add-one}
@@ -14,7 +14,6 @@ use Rattle.rules.specs.declared.Listed.{Listed}
 use Rattle.rules.specs.declared.Verdict.{Verdict}
 use Rattle.rules.specs.declared.Verdict.the-variants.{Pass, Fail}
 use Rattle.rules.specs.Lists.{count}
-use Rattle.rules.specs.Area.{view}
 use Rattle.rules.specs.OrphanList.{orphanTotal, isRecord, HoldsOrphans, listVerdict, listed, listAnswer, ListLeft, ListsOrphans}
 use Rattle.bridge.specs.Fit.{workOf}
 use Rattle.orphan_scan.specs.Scan.{orphansFrom, orphansAfter, FirstOf}

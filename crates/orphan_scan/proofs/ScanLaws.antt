@@ -3,7 +3,7 @@
 use mathlib.Core.Path.{_≡_, refl, sym, ap, ap₂, subst, _∙_}
 use mathlib.Core.Bool.{Bool, true, false}
 use mathlib.Core.List.{List, [], _∷_, _++_, map}
-use Prim.Native.Nat.{ℕ, zero, suc, _+_, _≤_, _<_}
+use Prim.Native.Nat.{ℕ, suc, _+_, _≤_, _<_}
 use native.Mathlib.Numerals.{add-one}
 use native.Mathlib.Omega.{arith}
 use lib.IntN.{ℤ}
@@ -19,7 +19,7 @@ use Rattle.rules.specs.OrphanList.{orphanTotal}
 use Rattle.bridge.specs.Fit.{workOf}
 use Rattle.bridge.specs.Ready.{Ready}
 use Rattle.bridge.proofs.RowWords.{formed-fit, rows-length}
-use Rattle.orphan_scan.specs.Scan.{passing, orphansOf, orphansFrom, orphansAfter, FirstRow, FirstOf}
+use Rattle.orphan_scan.specs.Scan.{passing, orphansOf, orphansFrom, FirstRow, FirstOf}
 
 -- ---- the numbers of the elements that pass
 module _ {A : Type 0} (p : A → Bool) where

@@ -29,12 +29,12 @@ use types.Kit.{use1, use3, split, join, pick, rewrite, fsplit, fjoin, suffices, 
 use types.Run.{look, init, store, forget, stop, hop, fld, from, load, lit, of-opd, bin, and-then, no-more, assigns, assigns-last, land, first, blocks, stays, leaves-loop, returns}
 use types.Run.{enter, alloc1, alloc0, params1, pass1, pass0, free1, free0, exec, Below, again, loops}
 use types.Part.{whole, sub, look-in}
-use sound.WpLaws.{FmC, fmOf, WpFn-mono}
+use sound.WpLaws.{fmOf, WpFn-mono}
 use denote.RattleType.{RattleType, owns}
 use denote.Shadow.{pureI}
 use denote.Laws.{Is, shows, Makes, Typed}
 use denote.Memory.{cellAt, pointee}
-use denote.Plain.{uint-vals, uint-tells, uint-makes}
+use denote.Plain.{uint-makes}
 use denote.Builtin.{u8, usize, i64}
 use denote.Ref.{RefT, now}
 use denote.Slice.{sliceTy, sliceVal, MutSlice, ShrSlice, heres, Room, slice-vals, mut-slice-tells, shr-slice-tells, shr-slice-copy, at-slice, codedHoleys}
@@ -109,6 +109,14 @@ PlanList 𝓤 H A mem run = tripleOf 𝓤 H A p.signature (p.spec 𝓤 H A mem r
 abbrev NextOrphan : {M : Type 1} (𝓤 : URA M) (H : Heap 𝓤) (A : Atoms 𝓤) (mem : Memory → SProp 𝓤) (run : Routine → Fun 𝓤) → Contract 𝓤
 NextOrphan 𝓤 H A mem run = tripleOf 𝓤 H A g.signature (g.spec 𝓤 H A mem run)
 
+-- the callees meet them
+module _ {M : Type 1} (𝓤 : URA M) (H : Heap 𝓤) (A : Atoms 𝓤) (mem : Memory → SProp 𝓤) (run : Routine → Fun 𝓤) (𝓣 : Tables 𝓤 H) where
+  abbrev KnowsPlan : Type 1
+  KnowsPlan = Triple 𝓤 (𝓣 .C #plan-list) (PlanList 𝓤 H A mem run)
+
+  abbrev KnowsNext : Type 1
+  KnowsNext = Triple 𝓤 (𝓣 .C #next-orphan) (NextOrphan 𝓤 H A mem run)
+
 -- ---- machine values
 abbrev machO : Orphan → Val
 machO e = vstruct (vcons (vint w64 (e .key)) (vcons (vint w64 (e .row)) vnil))
@@ -174,8 +182,12 @@ module _ {M : Type 1} (𝓤 : URA M) (H : Heap 𝓤) (A : Atoms 𝓤) (W : Given
   abbrev vals : List Val × (List Val × (List Val × Unit {0}))
   vals = (bv ∷ [], (av ∷ [], (s ∷ [], tt)))
 
+  -- what the function's triple binds outside
+  abbrev bound : walkOf 𝓤 H A f.ended stayed (f.clauses 𝓤 H A at-mem run) .Ghost
+  bound = (((κ₀, (κ₁, (κ₂, tt))), (q₀, (q₁, (q₂, tt))), tt, a, vals), tt)
+
   abbrev Post : Val → SProp 𝓤
-  Post = walkOf 𝓤 H A f.ended stayed (f.clauses 𝓤 H A at-mem run) .post (((κ₀, (κ₁, (κ₂, tt))), (q₀, (q₁, (q₂, tt))), tt, a, vals), tt)
+  Post = walkOf 𝓤 H A f.ended stayed (f.clauses 𝓤 H A at-mem run) .post bound
 
   -- what the two shared slices own
   abbrev OwnB : Fml
@@ -187,6 +199,10 @@ module _ {M : Type 1} (𝓤 : URA M) (H : Heap 𝓤) (A : Atoms 𝓤) (W : Given
   -- what a call takes: the tokens, and what the shared slices own
   abbrev Lent : List (Item 𝓤)
   Lent = (‵ (flft κ₀ q₀) ⊛ ‵ (flft κ₁ q₁)) ∷ ‵ OwnB ∷ ‵ OwnA ∷ []
+
+  -- and gives back, beside its result
+  abbrev Back : Item 𝓤
+  Back = ‵ (flft κ₀ q₀) ⊛ ‵ (flft κ₁ q₁) ⊛ ‵ ftrue
 
   -- the list's borrow at l
   abbrev Obs : List Orphan → Item 𝓤
@@ -206,11 +222,12 @@ module _ {M : Type 1} (𝓤 : URA M) (H : Heap 𝓤) (A : Atoms 𝓤) (W : Given
       → ent 𝓤 (⋆ 𝓤 H A (End (L i))) (Post (machL r))
   exits r i is e low at-end =
       qed W (End (L i)) ∵
-      suffices ! _ (ends-at 𝓤 H A f.ended stayed (f.clauses 𝓤 H A at-mem run) W (((κ₀, (κ₁, (κ₂, tt))), (q₀, (q₁, (q₂, tt))), tt, a, vals), tt) (machL r) r (tt, (tt, (L i, tt))) (tt, (tt, (same, tt)))) $
+      suffices ! _ (ends-at 𝓤 H A f.ended stayed (f.clauses 𝓤 H A at-mem run) W bound (machL r) r (tt, (tt, (L i, tt))) (tt, (tt, (same, tt)))) $
       says ! left $
       nothing ! $ move ! (3 ∷ 0 ∷ []) $ join ! $ move ! (4 ∷ 0 ∷ []) $ join ! $ move ! (3 ∷ 0 ∷ []) $ join ! $ frame ! $
       fjoin ! $ pureI ! (at-slice R (x (L i)) (s ∷ [])) (tt, (tt, tt)) (ap (λ (m : ℕ). sliceVal (b, o) m ∷ []) (sym same), subst (Room R) (sym same) room) $ fjoin ! $
-      nothing ! $ move ! (1 ∷ 0 ∷ []) $ fjoin ! $ move ! (2 ∷ 0 ∷ []) $ fjoin ! $ move ! (1 ∷ 0 ∷ []) $ fjoin ! $ owned ! Q (Is Q) (plain-listed 𝓤 H A) r _ is $ move ! (1 ∷ 0 ∷ []) $ done !
+      nothing ! $ move ! (1 ∷ 0 ∷ []) $ fjoin ! $ move ! (2 ∷ 0 ∷ []) $ fjoin ! $ move ! (1 ∷ 0 ∷ []) $ fjoin ! $
+      owned ! Q (Is Q) (plain-listed 𝓤 H A) r _ is $ move ! (1 ∷ 0 ∷ []) $ done !
     where
       same : length (L i) ≡ length ys
       same = laid-length os ys i (omega (arith, at-end, count-low (now bs) (now ar) (length ys) e)) (omega (arith, at-end, low))
@@ -228,12 +245,15 @@ module _ {M : Type 1} (𝓤 : URA M) (H : Heap 𝓤) (A : Atoms 𝓤) (W : Given
   goes-plan : (k : ℕ) → k < 2 ^ 64 → ent 𝓤 (⋆ 𝓤 H A Lent) (PlanList 𝓤 H A at-mem run .pre (to-plan k))
   goes-plan k fits =
       qed W Lent ∵ split ! $ nothing ! $ move ! (2 ∷ 0 ∷ []) $ join ! $ move ! (1 ∷ 0 ∷ []) $ join ! $
-      nothing ! $ owned ! usize (Is usize) (uint-makes 𝓤 H A W w64) k _ (refl, fits) $ fjoin ! $ move ! (3 ∷ 0 ∷ []) $ fjoin ! $ move ! (2 ∷ 0 ∷ []) $ fjoin ! $ move ! (1 ∷ 0 ∷ []) $ join ! $ frame ! $ done !
+      nothing ! $ owned ! usize (Is usize) (uint-makes 𝓤 H A W w64) k _ (refl, fits) $ fjoin ! $
+      move ! (3 ∷ 0 ∷ []) $ fjoin ! $ move ! (2 ∷ 0 ∷ []) $ fjoin ! $ move ! (1 ∷ 0 ∷ []) $ join ! $ frame ! $ done !
 
   goes-next : (e : Orphan) → Is R e (machO e ∷ []) → Ready (now bs) (now ar) → e .row < 1024 → ent 𝓤 (⋆ 𝓤 H A Lent) (NextOrphan 𝓤 H A at-mem run .pre (to-next e))
   goes-next e is ready small =
-      qed W Lent ∵ says ! (ready, small) $ split ! $ nothing ! $ move ! (2 ∷ 0 ∷ []) $ join ! $ move ! (1 ∷ 0 ∷ []) $ join ! $
-      nothing ! $ owned ! R (Is R) (plain-orphan 𝓤 H A) e _ is $ fjoin ! $ move ! (3 ∷ 0 ∷ []) $ fjoin ! $ move ! (2 ∷ 0 ∷ []) $ fjoin ! $ move ! (1 ∷ 0 ∷ []) $ done !
+      qed W Lent ∵ says ! (ready, small) $
+      split ! $ nothing ! $ move ! (2 ∷ 0 ∷ []) $ join ! $ move ! (1 ∷ 0 ∷ []) $ join ! $
+      nothing ! $ owned ! R (Is R) (plain-orphan 𝓤 H A) e _ is $ fjoin ! $
+      move ! (3 ∷ 0 ∷ []) $ fjoin ! $ move ! (2 ∷ 0 ∷ []) $ fjoin ! $ move ! (1 ∷ 0 ∷ []) $ done !
 
   abbrev told-plan : ℕ → Plan → SProp 𝓤
   told-plan k r = ensured 𝓤 H A p.ended (p.clauses 𝓤 H A at-mem run) (κ₀, (κ₁, tt)) (bs, (ar, (k, tt))) tt r
@@ -270,7 +290,17 @@ module _ {M : Type 1} (𝓤 : URA M) (H : Heap 𝓤) (A : Atoms 𝓤) (W : Given
   abbrev areaTy : Ty
   areaTy = sliceTy (tyRef (named 1) imm (tyInt w64))
 
-  module _ (𝓣 : Tables 𝓤 H) (known-plan : Triple 𝓤 (𝓣 .C #plan-list) (PlanList 𝓤 H A at-mem run)) (known-next : Triple 𝓤 (𝓣 .C #next-orphan) (NextOrphan 𝓤 H A at-mem run)) (l₀ l₁ l₂ l₃ l₄ l₅ l₆ l₇ l₈ l₉ l₁₀ l₁₁ l₁₂ : ℕ) where
+  -- a local of type t at l: it holds v, it holds nothing, it dies
+  abbrev Full : Ty → ℕ → Val → Item 𝓤
+  Full t l v = ‵ (fat fullShare t l 0 v)
+
+  abbrev Empty : Ty → ℕ → Item 𝓤
+  Empty t l = ‵ (froom t l 0)
+
+  abbrev Dies : Ty → ℕ → Item 𝓤
+  Dies t l = ‵ (fdies t l)
+
+  module _ (𝓣 : Tables 𝓤 H) (known-plan : KnowsPlan 𝓤 H A at-mem run 𝓣) (known-next : KnowsNext 𝓤 H A at-mem run 𝓣) (l₀ l₁ l₂ l₃ l₄ l₅ l₆ l₇ l₈ l₉ l₁₀ l₁₁ l₁₂ : ℕ) where
     abbrev C : Calls 𝓤 H
     C = 𝓣 .C
 
@@ -278,16 +308,21 @@ module _ {M : Type 1} (𝓤 : URA M) (H : Heap 𝓤) (A : Atoms 𝓤) (W : Given
     Λ = 𝓣 .Λ
 
     abbrev En : Env 𝓤 H
-    En = (S′.mir, l₀) ∷ (bytesTy, l₁) ∷ (areaTy, l₂) ∷ (listTy, l₃) ∷ (P′.mir, l₄) ∷ (S′.mir, l₅) ∷ (word, l₆) ∷ (T′.mir, l₇) ∷ (word, l₈) ∷ (word, l₉) ∷ (tyBool, l₁₀) ∷ (word, l₁₁) ∷ (tyPtr, l₁₂) ∷ []
+    En =
+        (S′.mir, l₀) ∷ (bytesTy, l₁) ∷ (areaTy, l₂) ∷ (listTy, l₃) ∷ (P′.mir, l₄) ∷ (S′.mir, l₅) ∷ (word, l₆)
+        ∷ (T′.mir, l₇) ∷ (word, l₈) ∷ (word, l₉) ∷ (tyBool, l₁₀) ∷ (word, l₁₁) ∷ (tyPtr, l₁₂) ∷ []
 
-    -- the context between statements: the locals, each with that it dies, the list's borrow at l, the tokens, and what the shared slices own. It's given what stands in locals 4 to 8
+    -- the context between statements: the locals, each with that it dies, the list's borrow at l, the tokens, and what the shared slices own. Locals 4 to 8 stand as given
     abbrev Cx : (v₄ v₅ v₆ v₇ v₈ : Item 𝓤) → List Orphan → List (Item 𝓤)
     Cx v₄ v₅ v₆ v₇ v₈ l =
-        ‵ (froom tyPtr l₁₂ 0) ∷ ‵ (fdies tyPtr l₁₂) ∷ ‵ (froom word l₁₁ 0) ∷ ‵ (fdies word l₁₁) ∷ ‵ (froom tyBool l₁₀ 0) ∷ ‵ (fdies tyBool l₁₀)
-        ∷ ‵ (fat fullShare word l₉ 0 (vint w64 (length ys))) ∷ ‵ (fdies word l₉) ∷ v₈ ∷ ‵ (fdies word l₈) ∷ v₇ ∷ ‵ (fdies T′.mir l₇) ∷ v₆ ∷ ‵ (fdies word l₆) ∷ v₅ ∷ ‵ (fdies S′.mir l₅) ∷ v₄ ∷ ‵ (fdies P′.mir l₄)
-        ∷ ‵ (fat fullShare listTy l₃ 0 s) ∷ ‵ (fdies listTy l₃) ∷ ‵ (fat fullShare areaTy l₂ 0 av) ∷ ‵ (fdies areaTy l₂) ∷ ‵ (fat fullShare bytesTy l₁ 0 bv) ∷ ‵ (fdies bytesTy l₁)
-        ∷ ‵ (froom S′.mir l₀ 0) ∷ ‵ (fdies S′.mir l₀)
+        Empty tyPtr l₁₂ ∷ Dies tyPtr l₁₂ ∷ Empty word l₁₁ ∷ Dies word l₁₁ ∷ Empty tyBool l₁₀ ∷ Dies tyBool l₁₀ ∷ Full word l₉ (vint w64 (length ys)) ∷ Dies word l₉
+        ∷ v₈ ∷ Dies word l₈ ∷ v₇ ∷ Dies T′.mir l₇ ∷ v₆ ∷ Dies word l₆ ∷ v₅ ∷ Dies S′.mir l₅ ∷ v₄ ∷ Dies P′.mir l₄
+        ∷ Full listTy l₃ s ∷ Dies listTy l₃ ∷ Full areaTy l₂ av ∷ Dies areaTy l₂ ∷ Full bytesTy l₁ bv ∷ Dies bytesTy l₁ ∷ Empty S′.mir l₀ ∷ Dies S′.mir l₀
         ∷ End l
+
+    -- before the locals 5 to 8 are set
+    abbrev Unset : Item 𝓤 → List (Item 𝓤)
+    Unset v₄ = Cx v₄ (Empty S′.mir l₅) (Empty word l₆) (Empty T′.mir l₇) (Empty word l₈) (L 0)
 
     -- ---- the loop, once `plan_list` has answered r
     module _ (r : Plan) (r-is : Is PR r (machP r ∷ [])) (r-ok : Planned (now bs) (now ar) (length ys) r) where
@@ -317,49 +352,57 @@ module _ {M : Type 1} (𝓤 : URA M) (H : Heap 𝓤) (A : Atoms 𝓤) (W : Given
 
       -- the invariant
       abbrev At : Turn → List (Item 𝓤)
-      At u = Cx (‵ (fat fullShare P′.mir l₄ 0 (machP r))) (‵ (fat fullShare S′.mir l₅ 0 (machL (r .answer)))) (‵ (fat fullShare word l₆ 0 (vint w64 n))) (‵ (fat fullShare T′.mir l₇ 0 (machO (u .next)))) (‵ (fat fullShare word l₈ 0 (vint w64 (u .i)))) (L (u .i))
+      At u = Cx (Full P′.mir l₄ (machP r)) (Full S′.mir l₅ (machL (r .answer))) (Full word l₆ (vint w64 n)) (Full T′.mir l₇ (machO (u .next))) (Full word l₈ (vint w64 (u .i))) (L (u .i))
 
       abbrev Turned : Turn → Out → SProp 𝓤
       Turned u = afterTurn 𝓤 H (Below 𝓤 H A Nearer At u) (afterBlock 𝓤 H (afterSeq 𝓤 H (Wp 𝓤 H C Λ En body.t-8 (atReturn 𝓤 H En Post)) (atReturn 𝓤 H En Post)))
+
+      -- what the list holds where the turn writes
+      abbrev none : Orphan
+      none = record { key = 0; row = 0 }
+
+      abbrev held : Turn → Orphan
+      held u = getD (L (u .i)) (u .i) none
 
       -- a turn that writes one record
       more : (u : Turn) → ltb (u .i) n ≡ true → Sq W (At u) (runs C Λ En body.turn-1 (anyQ (Turned u)))
       unfolding afterTurn
       more u t =
           assigns ! (bin ! (load ! (from ! (stop !)) (look ! 8 refl)) (load ! (from ! (stop !)) (look ! 12 refl)) tt) (from ! (stop !)) (init ! 4 refl (tt, tt)) $
-          rewrite ! 4 (λ (y : Bool). ‵ (fat fullShare tyBool l₁₀ 0 (vbool y))) t refl $
+          rewrite ! 4 (λ (y : Bool). Full tyBool l₁₀ (vbool y)) t refl $
           stays ! (load ! (from ! (stop !)) (look ! 4 refl)) $
-          assigns ! (bin ! (load ! (from ! (stop !)) (look ! 8 refl)) (lit ! tt) (record { fits = place-fits (room .1) in-list })) (from ! (stop !)) (init ! 2 refl (tt, record { fits = place-fits (room .1) in-list })) $
+          assigns ! (bin ! (load ! (from ! (stop !)) (look ! 8 refl)) (lit ! tt) (record { fits = at-fits })) (from ! (stop !)) (init ! 2 refl (tt, record { fits = at-fits })) $
           assigns ! (bin ! (load ! (from ! (fld ! refl (stop !))) (look-in ! 18 (sub ! 0 refl (whole !)))) (load ! (from ! (stop !)) (look ! 2 refl)) tt) (from ! (stop !)) (init ! 0 refl (tt, tt)) $
-          rewrite ! 0 (λ (m : ℕ). ‵ (fat fullShare tyPtr l₁₂ 0 (vptr b m))) (sym (place-is 16 o (u .i))) refl $
+          rewrite ! 0 (λ (m : ℕ). Full tyPtr l₁₂ (vptr b m)) (sym (place-is 16 o (u .i))) refl $
           -- the borrow is opened, and the element is taken out
-          move ! (26 ∷ 27 ∷ 28 ∷ []) $ opens-slice ! tt R (L (u .i)) b o $ elem-out ! R (Is R) (shows 𝓤 H A R) (LL.vals T.the-type T′.the-laws) (LL.tells T.the-type T′.the-laws) fullShare (L (u .i)) (u .i) none b o in-L (λ _.
-          use1 W (‵ (fat fullShare T′.mir b (place 16 o (u .i)) (machO (getD (L (u .i)) (u .i) none)))) (W .laws .raw-at fullShare T′.mir b (place 16 o (u .i)) (machO (getD (L (u .i)) (u .i) none))) $
+          move ! (26 ∷ 27 ∷ 28 ∷ []) $ opens-slice ! tt R (L (u .i)) b o $
+          elem-out ! R (Is R) (shows 𝓤 H A R) (LL.vals T.the-type T′.the-laws) (LL.tells T.the-type T′.the-laws) fullShare (L (u .i)) (u .i) none b o in-L (λ _.
+          use1 W (‵ (fat fullShare T′.mir b (place 16 o (u .i)) (machO (held u)))) (W .laws .raw-at fullShare T′.mir b (place 16 o (u .i)) (machO (held u))) $
           -- [list[i]; what it owns; the others; the open borrow; obs; auth; _12; …]
           assigns ! (of-opd ! (load ! (from ! (stop !)) (look ! 16 refl))) (from ! (hop ! (look ! 6 refl) (stop !))) (store ! 0 refl (typed-orphan 𝓤 H A W (u .next) _ (u .is) .0)) $
           use1 W (‵ (cellAt fullShare (R .mir) (machO (u .next) ∷ []) b (place 16 o (u .i)))) (W .laws .at-raw fullShare T′.mir b (place 16 o (u .i)) (machO (u .next))) $
-          move ! (1 ∷ []) $ discard ! $ owned ! R (Is R) (plain-orphan 𝓤 H A) (u .next) _ (u .is) $ move ! (1 ∷ 0 ∷ []) $ elem-put ! R fullShare (L (u .i)) (u .i) (u .next) (machO (u .next) ∷ []) b o in-L $
+          move ! (1 ∷ []) $ discard ! $ owned ! R (Is R) (plain-orphan 𝓤 H A) (u .next) _ (u .is) $ move ! (1 ∷ 0 ∷ []) $
+          elem-put ! R fullShare (L (u .i)) (u .i) (u .next) (machO (u .next) ∷ []) b o in-L $
           closes-slice ! tt R (L (u .i)) (set (L (u .i)) (u .i) (u .next)) (length-set (L (u .i)) (u .i) (u .next)) b o $
           rewrite ! 0 Obs (written) refl $ rewrite ! 1 Bor (written) refl $
           -- [obs; the borrow; the token; _12; …; bytes's token; area's token; what bytes owns; what area owns]: the call, with copies of what the shared slices own
           move ! (31 ∷ []) $ use1 W (‵ OwnB ⊛ ‵ OwnB) two-bytes $ split ! $
           move ! (33 ∷ []) $ use1 W (‵ OwnA ⊛ ‵ OwnA) two-areas $ split ! $
           move ! (33 ∷ 34 ∷ 2 ∷ 0 ∷ []) $ join ! $ use3 W (raw (NextOrphan 𝓤 H A at-mem run .pre (to-next (u .next)))) (goes-next (u .next) (u .is) ready (u .small)) $
-          calls-at ! (fmOf 𝓤 H (W .laws) 𝓣) (NextOrphan 𝓤 H A at-mem run) known-next (to-next (u .next)) (and-then ! (load ! (from ! (stop !)) (look ! 28 refl)) (and-then ! (load ! (from ! (stop !)) (look ! 26 refl)) (and-then ! (load ! (from ! (stop !)) (look ! 16 refl)) (no-more !)))) (λ v.
-          use1 W (later (some (λ (e : Orphan). ((‵ (flft κ₀ q₀) ⊛ ‵ (flft κ₁ q₁) ⊛ ‵ ftrue) ⊛ ‵ (R .own e (v ∷ []))) ⊛ raw (told-next (u .next) e)))) (id⊢ 𝓤 _) $ await ! tt $ pick ! (λ e.
-          split ! $ move ! (1 ∷ []) $ use1 W (raw (fact 𝓤 (Follows (u .next) e))) (said-next (u .next) e) $ heard ! (Follows (u .next) e) (λ e-ok. split ! $ split ! $ move ! (1 ∷ []) $ split ! $ move ! (3 ∷ []) $
+          calls-at ! (fmOf 𝓤 H (W .laws) 𝓣) (NextOrphan 𝓤 H A at-mem run) known-next (to-next (u .next))
+          (and-then ! (load ! (from ! (stop !)) (look ! 28 refl)) (and-then ! (load ! (from ! (stop !)) (look ! 26 refl)) (and-then ! (load ! (from ! (stop !)) (look ! 16 refl)) (no-more !)))) (λ v.
+          use1 W (later (some (λ (e : Orphan). (Back ⊛ ‵ (R .own e (v ∷ []))) ⊛ raw (told-next (u .next) e)))) (id⊢ 𝓤 _) $ await ! tt $ pick ! (λ e.
+          split ! $ move ! (1 ∷ []) $ use1 W (raw (fact 𝓤 (Follows (u .next) e))) (said-next (u .next) e) $ heard ! (Follows (u .next) e) (λ e-ok.
+          split ! $ split ! $ move ! (1 ∷ []) $ split ! $ move ! (3 ∷ []) $
           peeks ! R (Is R) (shows 𝓤 H A R) e (v ∷ []) (λ e-is.
           -- [what the record owns; area's token; true; bytes's token; what area owns; what bytes owns; obs; the borrow; the token; _12; …]
           land ! (from ! (stop !)) (store ! 19 refl (typed-orphan 𝓤 H A W e _ e-is .0)) $
-          rewrite ! 19 (λ (w : Val). ‵ (fat fullShare T′.mir l₇ 0 w)) (ap only (LL.tells T.the-type T′.the-laws e _ e-is)) refl $
-          assigns-last ! (bin ! (load ! (from ! (stop !)) (look ! 17 refl)) (lit ! tt) (record { fits = next-fits n-fits less })) (from ! (stop !)) (store ! 17 refl (tt, record { fits = next-fits n-fits less })) $
+          rewrite ! 19 (λ (w : Val). Full T′.mir l₇ w) (ap only (LL.tells T.the-type T′.the-laws e _ e-is)) refl $
+          assigns-last ! (bin ! (load ! (from ! (stop !)) (look ! 17 refl)) (lit ! tt) (record { fits = i-fits })) (from ! (stop !)) (store ! 17 refl (tt, record { fits = i-fits })) $
           forget ! 9 refl $ forget ! 11 refl $ forget ! 13 refl $
           keep ! (span 9 26 (6 ∷ 7 ∷ 8 ∷ 3 ∷ 1 ∷ 5 ∷ 4 ∷ [])) $
           again ! Nearer At u (after e e-ok (subst (Is R e) (LL.tells T.the-type T′.the-laws e _ e-is) e-is)) (omega (arith, less)))))))
         where
-          none : Orphan
-          none = record { key = 0; row = 0 }
-
           less : u .i < n
           less = ltb-true (u .i) n t
 
@@ -368,6 +411,12 @@ module _ {M : Type 1} (𝓤 : URA M) (H : Heap 𝓤) (A : Atoms 𝓤) (W : Given
 
           in-list : u .i < length ys
           in-list = omega (arith, less, r-ok .fits)
+
+          at-fits : u .i * 16 < 2 ^ 64
+          at-fits = place-fits (room .1) in-list
+
+          i-fits : u .i + 1 < 2 ^ 64
+          i-fits = next-fits n-fits less
 
           in-all : u .i < length os
           in-all = omega (arith, less, n-low)
@@ -379,18 +428,30 @@ module _ {M : Type 1} (𝓤 : URA M) (H : Heap 𝓤) (A : Atoms 𝓤) (W : Given
           written = laid-next os ys (u .i) in-all (u .heads less) in-list
 
           after : (e : Orphan) → Follows (u .next) e → Is R e (machO e ∷ []) → Turn
-          after e e-ok e-is = record { i = u .i + 1; next = e; low = omega (arith, less); is = e-is; small = e-ok .small; heads = next-heads (now bs) (now ar) os n (u .i) n-low less (u .heads less) e-ok }
+          after e e-ok e-is =
+              record {
+                i = u .i + 1;
+                next = e;
+                low = omega (arith, less);
+                is = e-is;
+                small = e-ok .small;
+                heads = next-heads (now bs) (now ar) os n (u .i) n-low less (u .heads less) e-ok;
+              }
 
       -- the turn that leaves the loop, and the rest of the body
       ends : (u : Turn) → ltb (u .i) n ≡ false → Sq W (At u) (runs C Λ En body.turn-1 (anyQ (Turned u)))
       unfolding afterTurn
       ends u t =
           assigns ! (bin ! (load ! (from ! (stop !)) (look ! 8 refl)) (load ! (from ! (stop !)) (look ! 12 refl)) tt) (from ! (stop !)) (init ! 4 refl (tt, tt)) $
-          rewrite ! 4 (λ (y : Bool). ‵ (fat fullShare tyBool l₁₀ 0 (vbool y))) t refl $
+          rewrite ! 4 (λ (y : Bool). Full tyBool l₁₀ (vbool y)) t refl $
           leaves-loop ! (load ! (from ! (stop !)) (look ! 4 refl)) $ exec ! C Λ En body.t-8 (atRet En Post) $
           assigns ! (of-opd ! (load ! (from ! (stop !)) (look ! 14 refl))) (from ! (stop !)) (init ! 24 refl (typed-listed 𝓤 H A W (r .answer) _ (answer-is r r-is) .0)) $
-          returns ! (look ! 24 refl) $ forget ! 4 refl $ forget ! 6 refl $ forget ! 8 refl $ forget ! 10 refl $ forget ! 12 refl $ forget ! 14 refl $ forget ! 16 refl $ forget ! 18 refl $ forget ! 20 refl $ forget ! 22 refl $ forget ! 24 refl $
-          move ! (24 ∷ 25 ∷ []) $ free1 ! $ move ! (22 ∷ 23 ∷ []) $ free1 ! $ move ! (20 ∷ 21 ∷ []) $ free1 ! $ move ! (18 ∷ 19 ∷ []) $ free1 ! $ move ! (16 ∷ 17 ∷ []) $ free1 ! $ move ! (14 ∷ 15 ∷ []) $ free1 ! $ move ! (12 ∷ 13 ∷ []) $ free1 ! $ move ! (10 ∷ 11 ∷ []) $ free1 ! $ move ! (8 ∷ 9 ∷ []) $ free1 ! $ move ! (6 ∷ 7 ∷ []) $ free1 ! $ move ! (4 ∷ 5 ∷ []) $ free1 ! $ move ! (2 ∷ 3 ∷ []) $ free1 ! $ move ! (0 ∷ 1 ∷ []) $ free1 ! $ free0 ! $
+          returns ! (look ! 24 refl) $
+          forget ! 4 refl $ forget ! 6 refl $ forget ! 8 refl $ forget ! 10 refl $ forget ! 12 refl $ forget ! 14 refl $
+          forget ! 16 refl $ forget ! 18 refl $ forget ! 20 refl $ forget ! 22 refl $ forget ! 24 refl $
+          move ! (24 ∷ 25 ∷ []) $ free1 ! $ move ! (22 ∷ 23 ∷ []) $ free1 ! $ move ! (20 ∷ 21 ∷ []) $ free1 ! $ move ! (18 ∷ 19 ∷ []) $ free1 ! $
+          move ! (16 ∷ 17 ∷ []) $ free1 ! $ move ! (14 ∷ 15 ∷ []) $ free1 ! $ move ! (12 ∷ 13 ∷ []) $ free1 ! $ move ! (10 ∷ 11 ∷ []) $ free1 ! $
+          move ! (8 ∷ 9 ∷ []) $ free1 ! $ move ! (6 ∷ 7 ∷ []) $ free1 ! $ move ! (4 ∷ 5 ∷ []) $ free1 ! $ move ! (2 ∷ 3 ∷ []) $ free1 ! $ move ! (0 ∷ 1 ∷ []) $ free1 ! $ free0 ! $
           by ! (exits (r .answer) (u .i) (answer-is r r-is) (r-ok .answer-is) (r-ok .fits) (le-antisymm (u .low) (ltb-false (u .i) n t)))
 
       by-test : (u : Turn) (y : Bool) → ltb (u .i) n ≡ y → Sq W (At u) (runs C Λ En body.turn-1 (anyQ (Turned u)))
@@ -407,36 +468,44 @@ module _ {M : Type 1} (𝓤 : URA M) (H : Heap 𝓤) (A : Atoms 𝓤) (W : Given
       looped = first ! $ blocks ! $ loops ! 𝓣 Nearer Nearer-wf At turns start
 
       -- the locals that the plan gives
-      sets : Sq W (Cx (‵ (fat fullShare P′.mir l₄ 0 (machP r))) (‵ (froom S′.mir l₅ 0)) (‵ (froom word l₆ 0)) (‵ (froom T′.mir l₇ 0)) (‵ (froom word l₈ 0)) (L 0)) (runs C Λ En body.t-3 (atRet En Post))
+      sets : Sq W (Unset (Full P′.mir l₄ (machP r))) (runs C Λ En body.t-3 (atRet En Post))
       sets =
-          assigns ! (of-opd ! (load ! (from ! (fld ! refl (stop !))) (look-in ! 16 (sub ! 0 refl (whole !))))) (from ! (stop !)) (init ! 14 refl (typed-listed 𝓤 H A W (r .answer) _ (answer-is r r-is) .0)) $
+          assigns ! (of-opd ! (load ! (from ! (fld ! refl (stop !))) (look-in ! 16 (sub ! 0 refl (whole !))))) (from ! (stop !))
+          (init ! 14 refl (typed-listed 𝓤 H A W (r .answer) _ (answer-is r r-is) .0)) $
           assigns ! (of-opd ! (load ! (from ! (fld ! refl (stop !))) (look-in ! 14 (sub ! 1 refl (whole !))))) (from ! (stop !)) (init ! 12 refl (tt, record { fits = n-fits })) $
-          assigns ! (of-opd ! (load ! (from ! (fld ! refl (stop !))) (look-in ! 16 (sub ! 1 refl (whole !))))) (from ! (stop !)) (init ! 10 refl (typed-orphan 𝓤 H A W (r .first) _ (first-is r r-is) .0)) $
+          assigns ! (of-opd ! (load ! (from ! (fld ! refl (stop !))) (look-in ! 16 (sub ! 1 refl (whole !))))) (from ! (stop !))
+          (init ! 10 refl (typed-orphan 𝓤 H A W (r .first) _ (first-is r r-is) .0)) $
           assigns ! (of-opd ! (lit ! tt)) (from ! (stop !)) (init ! 8 refl (tt, record { fits = lit< tt })) $
           looped
 
     -- ---- from the call of `plan_list` to the loop
-    planned : Sq W (Cx (‵ (froom P′.mir l₄ 0)) (‵ (froom S′.mir l₅ 0)) (‵ (froom word l₆ 0)) (‵ (froom T′.mir l₇ 0)) (‵ (froom word l₈ 0)) (L 0)) (runs C Λ En body.t-2 (atRet En Post))
+    planned : Sq W (Unset (Empty P′.mir l₄)) (runs C Λ En body.t-2 (atRet En Post))
     planned =
         move ! (31 ∷ []) $ use1 W (‵ OwnB ⊛ ‵ OwnB) two-bytes $ split ! $
         move ! (33 ∷ []) $ use1 W (‵ OwnA ⊛ ‵ OwnA) two-areas $ split ! $
         move ! (33 ∷ 34 ∷ 2 ∷ 0 ∷ []) $ join ! $ use3 W (raw (PlanList 𝓤 H A at-mem run .pre (to-plan (length ys)))) (goes-plan (length ys) (room .0)) $
-        calls-at ! (fmOf 𝓤 H (W .laws) 𝓣) (PlanList 𝓤 H A at-mem run) known-plan (to-plan (length ys)) (and-then ! (load ! (from ! (stop !)) (look ! 25 refl)) (and-then ! (load ! (from ! (stop !)) (look ! 23 refl)) (and-then ! (load ! (from ! (stop !)) (look ! 9 refl)) (no-more !)))) (λ v.
-        use1 W (later (some (λ (r : Plan). ((‵ (flft κ₀ q₀) ⊛ ‵ (flft κ₁ q₁) ⊛ ‵ ftrue) ⊛ ‵ (PR .own r (v ∷ []))) ⊛ raw (told-plan (length ys) r)))) (id⊢ 𝓤 _) $ await ! tt $ pick ! (λ r.
-        split ! $ move ! (1 ∷ []) $ use1 W (raw (fact 𝓤 (Planned (now bs) (now ar) (length ys) r))) (said-plan (length ys) r) $ heard ! (Planned (now bs) (now ar) (length ys) r) (λ r-ok. split ! $ split ! $ move ! (1 ∷ []) $ split ! $ move ! (3 ∷ []) $
+        calls-at ! (fmOf 𝓤 H (W .laws) 𝓣) (PlanList 𝓤 H A at-mem run) known-plan (to-plan (length ys))
+        (and-then ! (load ! (from ! (stop !)) (look ! 25 refl)) (and-then ! (load ! (from ! (stop !)) (look ! 23 refl)) (and-then ! (load ! (from ! (stop !)) (look ! 9 refl)) (no-more !)))) (λ v.
+        use1 W (later (some (λ (r : Plan). (Back ⊛ ‵ (PR .own r (v ∷ []))) ⊛ raw (told-plan (length ys) r)))) (id⊢ 𝓤 _) $ await ! tt $ pick ! (λ r.
+        split ! $ move ! (1 ∷ []) $ use1 W (raw (fact 𝓤 (Planned (now bs) (now ar) (length ys) r))) (said-plan (length ys) r) $ heard ! (Planned (now bs) (now ar) (length ys) r) (λ r-ok.
+        split ! $ split ! $ move ! (1 ∷ []) $ split ! $ move ! (3 ∷ []) $
         peeks ! PR (Is PR) (shows 𝓤 H A PR) r (v ∷ []) (λ is.
         land ! (from ! (stop !)) (init ! 22 refl (typed-plan 𝓤 H A W r _ is .0)) $
-        rewrite ! 22 (λ (w : Val). ‵ (fat fullShare P′.mir l₄ 0 w)) (ap only (LL.tells P.the-type P′.the-laws r _ is)) refl $
+        rewrite ! 22 (λ (w : Val). Full P′.mir l₄ w) (ap only (LL.tells P.the-type P′.the-laws r _ is)) refl $
         keep ! (span 6 29 (3 ∷ 1 ∷ 5 ∷ 4 ∷ [])) $
         sets r (subst (Is PR r) (LL.tells P.the-type P′.the-laws r _ is) is) r-ok))))
 
   -- the MIR up to that call
-  walk : (𝓣 : Tables 𝓤 H) → Triple 𝓤 (𝓣 .C #plan-list) (PlanList 𝓤 H A at-mem run) → Triple 𝓤 (𝓣 .C #next-orphan) (NextOrphan 𝓤 H A at-mem run)
+  walk : (𝓣 : Tables 𝓤 H) → KnowsPlan 𝓤 H A at-mem run 𝓣 → KnowsNext 𝓤 H A at-mem run 𝓣
       → ent 𝓤 (onEntry 𝓤 H A f.signature (κ₀, (κ₁, (κ₂, tt))) (q₀, (q₁, (q₂, tt))) a vals) (WpFn 𝓤 H (𝓣 .C) (𝓣 .Λ) code.function (bv ∷ av ∷ s ∷ []) Post)
   walk 𝓣 known-plan known-next =
-      qed W ((‵ (flft κ₀ q₀) ⊛ ‵ (flft κ₁ q₁) ⊛ ‵ (flft κ₂ q₂) ⊛ ‵ ftrue) ∷ ‵ (owns (ShrSlice (named 0) κ₀ u8 ∷ ShrSlice (named 1) κ₁ i64 ∷ MutSlice (named 2) κ₂ R ∷ []) a vals) ∷ []) ∵ enter ! (𝓣 .C) (𝓣 .Λ) code.function (bv ∷ av ∷ s ∷ []) _ $
-      alloc1 ! (λ l₀. alloc1 ! (λ l₁. alloc1 ! (λ l₂. alloc1 ! (λ l₃. alloc1 ! (λ l₄. alloc1 ! (λ l₅. alloc1 ! (λ l₆. alloc1 ! (λ l₇. alloc1 ! (λ l₈. alloc1 ! (λ l₉. alloc1 ! (λ l₁₀. alloc1 ! (λ l₁₁. alloc1 ! (λ l₁₂. alloc0 ! $ params1 ! $
-      pass1 ! (init ! 22 refl (tt, (tt, (record { fits = bs-room .0 }, tt)))) $ pass1 ! (init ! 20 refl (tt, (tt, (record { fits = ar-room .0 }, tt)))) $ pass1 ! (init ! 18 refl (tt, (tt, (record { fits = room .0 }, tt)))) $ pass0 ! $
+      qed W
+      ((‵ (flft κ₀ q₀) ⊛ ‵ (flft κ₁ q₁) ⊛ ‵ (flft κ₂ q₂) ⊛ ‵ ftrue) ∷ ‵ (owns (ShrSlice (named 0) κ₀ u8 ∷ ShrSlice (named 1) κ₁ i64 ∷ MutSlice (named 2) κ₂ R ∷ []) a vals) ∷ []) ∵
+      enter ! (𝓣 .C) (𝓣 .Λ) code.function (bv ∷ av ∷ s ∷ []) _ $
+      alloc1 ! (λ l₀. alloc1 ! (λ l₁. alloc1 ! (λ l₂. alloc1 ! (λ l₃. alloc1 ! (λ l₄. alloc1 ! (λ l₅. alloc1 ! (λ l₆. alloc1 ! (λ l₇.
+      alloc1 ! (λ l₈. alloc1 ! (λ l₉. alloc1 ! (λ l₁₀. alloc1 ! (λ l₁₁. alloc1 ! (λ l₁₂. alloc0 ! $ params1 ! $
+      pass1 ! (init ! 22 refl (tt, (tt, (record { fits = bs-room .0 }, tt)))) $ pass1 ! (init ! 20 refl (tt, (tt, (record { fits = ar-room .0 }, tt)))) $
+      pass1 ! (init ! 18 refl (tt, (tt, (record { fits = room .0 }, tt)))) $ pass0 ! $
       assigns ! (of-opd ! (load ! (from ! (fld ! refl (stop !))) (look-in ! 18 (sub ! 1 refl (whole !))))) (from ! (stop !)) (init ! 6 refl (tt, record { fits = room .0 })) $
       -- [_12; …; _0; …; the tokens; what the parameters own]
       move ! (27 ∷ []) $ fsplit ! $ move ! (1 ∷ []) $ fsplit ! $ move ! (1 ∷ []) $ fsplit ! $ fsplit ! $ move ! (1 ∷ []) $ fsplit ! $
@@ -448,17 +517,25 @@ module _ {M : Type 1} (𝓤 : URA M) (H : Heap 𝓤) (A : Atoms 𝓤) (W : Given
       planned 𝓣 known-plan known-next l₀ l₁ l₂ l₃ l₄ l₅ l₆ l₇ l₈ l₉ l₁₀ l₁₁ l₁₂)))))))))))))
 
 module _ {M : Type 1} (𝓤 : URA M) (H : Heap 𝓤) (A : Atoms 𝓤) (W : Given 𝓤 H A) (at-mem : Memory → SProp 𝓤) (run : Routine → Fun 𝓤) where
-  list-orphans-walks : (𝓣 : Tables 𝓤 H) → Triple 𝓤 (𝓣 .C #plan-list) (PlanList 𝓤 H A at-mem run) → Triple 𝓤 (𝓣 .C #next-orphan) (NextOrphan 𝓤 H A at-mem run) → Walks 𝓤 H A f.ended stayed (WpFn 𝓤 H (𝓣 .C) (𝓣 .Λ) code.function) (f.clauses 𝓤 H A at-mem run)
-  list-orphans-walks 𝓣 known-plan known-next = walked 𝓤 H A f.ended stayed (f.clauses 𝓤 H A at-mem run) (WpFn 𝓤 H (𝓣 .C) (𝓣 .Λ) code.function) (λ κs. (slice-vals, (slice-vals, (slice-vals, tt)))) (λ κs. (shr-slice-tells (named 0) (κs .0) u8, (shr-slice-tells (named 1) (κs .1 .0) i64, (mut-slice-tells (named 2) (κs .1 .1 .0) R, tt))))
-      (λ κs qs bounds a _ are. via 𝓤 _ (fst∗ 𝓤 _ (emp 𝓤)) (walk 𝓤 H A W at-mem run (κs .0) (κs .1 .0) (κs .1 .1 .0) (qs .0) (qs .1 .0) (qs .1 .1 .0) (a .0) (a .1 .0) (a .1 .1 .0 .ptr .0) (a .1 .1 .0 .ptr .1) (a .1 .1 .0 .name) (a .1 .1 .0 .now) (are .0 .0 .1) (are .1 .0 .0 .1) (are .1 .1 .0 .0 .1) 𝓣 known-plan known-next))
+  list-orphans-walks : (𝓣 : Tables 𝓤 H) → KnowsPlan 𝓤 H A at-mem run 𝓣 → KnowsNext 𝓤 H A at-mem run 𝓣
+      → Walks 𝓤 H A f.ended stayed (WpFn 𝓤 H (𝓣 .C) (𝓣 .Λ) code.function) (f.clauses 𝓤 H A at-mem run)
+  list-orphans-walks 𝓣 known-plan known-next =
+      walked 𝓤 H A f.ended stayed (f.clauses 𝓤 H A at-mem run) (WpFn 𝓤 H (𝓣 .C) (𝓣 .Λ) code.function)
+      (λ κs. (slice-vals, (slice-vals, (slice-vals, tt))))
+      (λ κs. (shr-slice-tells (named 0) (κs .0) u8, (shr-slice-tells (named 1) (κs .1 .0) i64, (mut-slice-tells (named 2) (κs .1 .1 .0) R, tt))))
+      (λ κs qs bounds a _ are. via 𝓤 _ (fst∗ 𝓤 _ (emp 𝓤))
+      (walk 𝓤 H A W at-mem run (κs .0) (κs .1 .0) (κs .1 .1 .0) (qs .0) (qs .1 .0) (qs .1 .1 .0)
+      (a .0) (a .1 .0) (a .1 .1 .0 .ptr .0) (a .1 .1 .0 .ptr .1) (a .1 .1 .0 .name) (a .1 .1 .0 .now) (are .0 .0 .1) (are .1 .0 .0 .1) (are .1 .1 .0 .0 .1) 𝓣 known-plan known-next))
 
   goes : AllGo 𝓤 H A W 3 (f.signature .params) (f.ended .kept) stayed
   goes = (goes-none-slice 𝓤 H A W 3 (0 ∷ []) tt (plain (λ _. u8)) yes, (goes-none-slice 𝓤 H A W 3 (1 ∷ []) tt (plain (λ _. i64)) yes, (goes-slice 𝓤 H A W 3 2 tt (plain (λ _. R)), tt)))
 
-list-orphans-meets : {M : Type 1} (𝓤 : URA M) (H : Heap 𝓤) (A : Atoms 𝓤) → Given 𝓤 H A → (at-mem : Memory → SProp 𝓤) (run : Routine → Fun 𝓤) (𝓣 : Tables 𝓤 H) → Triple 𝓤 (𝓣 .C #plan-list) (PlanList 𝓤 H A at-mem run) → Triple 𝓤 (𝓣 .C #next-orphan) (NextOrphan 𝓤 H A at-mem run)
+list-orphans-meets : {M : Type 1} (𝓤 : URA M) (H : Heap 𝓤) (A : Atoms 𝓤) → Given 𝓤 H A → (at-mem : Memory → SProp 𝓤) (run : Routine → Fun 𝓤) (𝓣 : Tables 𝓤 H)
+    → KnowsPlan 𝓤 H A at-mem run 𝓣 → KnowsNext 𝓤 H A at-mem run 𝓣
     → Meets 𝓤 H A f.signature (WpFn 𝓤 H (𝓣 .C) (𝓣 .Λ) code.function) (f.spec 𝓤 H A at-mem run)
 list-orphans-meets 𝓤 H A W at-mem run 𝓣 known-plan known-next =
-    walk-meets 𝓤 H A f.ended stayed W (goes 𝓤 H A W at-mem run) (f.clauses 𝓤 H A at-mem run) (WpFn 𝓤 H (𝓣 .C) (𝓣 .Λ) code.function) (WpFn-mono 𝓤 H (W .laws) 𝓣 code.function) (list-orphans-walks 𝓤 H A W at-mem run 𝓣 known-plan known-next)
+    walk-meets 𝓤 H A f.ended stayed W (goes 𝓤 H A W at-mem run) (f.clauses 𝓤 H A at-mem run) (WpFn 𝓤 H (𝓣 .C) (𝓣 .Λ) code.function)
+    (WpFn-mono 𝓤 H (W .laws) 𝓣 code.function) (list-orphans-walks 𝓤 H A W at-mem run 𝓣 known-plan known-next)
 
 pub list-orphans-spec : {M : Type 1} → stated.statement M
 unfolding code.routine tablesOf

@@ -30,14 +30,17 @@ child-rows-requires c κs = search needs
 returns : tie.Need-returns Inv-loop μ-loop
 returns c =
     let s = c .before .before .before .before .before .before .before in
+    let keys = c .before .before .before .before .before .key-count in
+    let loop = c .before .before .before .before .loop in
+    let row = c .before .before .next-row in
+    let rows = c .before .child-rows in
     let b = s .args .schema .now in
     let a = s .args .area .now in
-    let i = c .before .before .before .before .loop .i in
-    let j = c .before .before .next-row .result in
-    let many = child-many b a (s .pre) i in
-    let below : i < length (schemaOf b .keys) = omega (arith, c .before .before .before .before .before .key-count .ensures .0, c .before .before .before .loop-test .taken) in
-    let within : j < length (childRows b a i) = omega (arith, many, c .before .child-rows .ensures .0, c .if1 .taken) in
-    first-found b a i below (c .before .before .before .before .loop .from) j (c .before .before .before .before .loop .inv) (c .before .before .next-row .ensures) within (omega (arith, c .before .child-rows .ensures .1, c .if1 .taken))
+    let many = child-many b a (s .pre) (loop .i) in
+    let below : loop .i < length (schemaOf b .keys) = omega (arith, keys .ensures .0, c .before .before .before .loop-test .taken) in
+    let within : row .result < length (childRows b a (loop .i)) = omega (arith, many, rows .ensures .0, c .if1 .taken) in
+    let small : row .result < 1024 = omega (arith, rows .ensures .1, c .if1 .taken) in
+    first-found b a (loop .i) below (loop .from) (row .result) (loop .inv) (row .ensures) within small
 
 add-i : tie.Need-add-i Inv-loop μ-loop
 add-i c = search needs
@@ -48,19 +51,23 @@ loop-less c = search needs
 loop-again : tie.Need-loop-again Inv-loop μ-loop
 loop-again c =
     let s = c .before .before .before .before .before .before .before in
+    let keys = c .before .before .before .before .before .key-count in
+    let loop = c .before .before .before .before .loop in
+    let row = c .before .before .next-row in
+    let rows = c .before .child-rows in
     let b = s .args .schema .now in
     let a = s .args .area .now in
-    let i = c .before .before .before .before .loop .i in
-    let j = c .before .before .next-row .result in
-    let many = child-many b a (s .pre) i in
-    let below : i < length (schemaOf b .keys) = omega (arith, c .before .before .before .before .before .key-count .ensures .0, c .before .before .before .loop-test .taken) in
-    let past : length (childRows b a i) ≤ j = omega (arith, many, c .before .child-rows .ensures .0, c .if1 .left) in
-    c .before .before .before .before .loop .inv ∙ from-next b a i below (c .before .before .next-row .ensures) past
+    let many = child-many b a (s .pre) (loop .i) in
+    let below : loop .i < length (schemaOf b .keys) = omega (arith, keys .ensures .0, c .before .before .before .loop-test .taken) in
+    let past : length (childRows b a (loop .i)) ≤ row .result = omega (arith, many, rows .ensures .0, c .if1 .left) in
+    loop .inv ∙ from-next b a (loop .i) below (row .ensures) past
 
 returns-2 : tie.Need-returns-2 Inv-loop μ-loop
 returns-2 c =
     let s = c .before .before .before .before in
-    first-none (s .args .schema .now) (s .args .area .now) (c .before .loop .i) (c .before .loop .from) (c .before .loop .inv) (omega (arith, c .before .before .key-count .ensures .0, c .loop-test .left))
+    let loop = c .before .loop in
+    let past : length (schemaOf (s .args .schema .now) .keys) ≤ loop .i = omega (arith, c .before .before .key-count .ensures .0, c .loop-test .left) in
+    first-none (s .args .schema .now) (s .args .area .now) (loop .i) (loop .from) (loop .inv) past
 
 pub first-from-spec : {M : Type 1} → statement M
 first-from-spec =

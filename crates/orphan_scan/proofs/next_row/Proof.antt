@@ -37,24 +37,42 @@ parent-columns-requires c κs = search needs
 seek-requires : tie.Need-seek-requires
 seek-requires c κs =
     let s = c .before .before .before .before .before .before .before .before .before .before in
+    let child = c .before .before .before .before .before .before .before .before .child in
+    let children = c .before .before .before .before .before .before .before .rows-of in
+    let parent = c .before .before .before .before .before .before .parent in
+    let parents = c .before .before .before .before .before .rows-of2 in
+    let width = c .before .before .before .before .width in
+    let cs = c .before .before .before .child-columns in
+    let ps = c .before .before .parent-columns in
     let b = s .args .schema .now in
     let a = s .args .area .now in
-    let children = standing b a (s .pre .0) (c .before .before .before .before .before .before .before .before .child .result) (c .before .before .before .before .before .before .before .before .child .ensures .1) (c .before .before .before .before .before .before .before .rows-of .result) (c .before .before .before .before .before .before .before .rows-of .ensures) in
-    let parents = standing b a (s .pre .0) (c .before .before .before .before .before .before .parent .result) (c .before .before .before .before .before .before .parent .ensures .1) (c .before .before .before .before .before .rows-of2 .result) (c .before .before .before .before .before .rows-of2 .ensures) in
-    let columns = key-columns b (s .pre .0 .accepted) (s .args .k) (s .pre .1) (c .before .before .before .before .width .ensures .0) (c .before .before .parent-columns .result) (c .before .before .parent-columns .ensures) (c .before .before .before .child-columns .result) (c .before .before .before .child-columns .ensures) in
-    ((children, parents), (child-wide b (s .args .k) _ _ _ columns, parent-in b (s .args .k) _ _ _ columns (c .before .before .before .before .before .before .parent .ensures .0) (c .before .before .before .before .before .rows-of2 .ensures)))
+    let k = s .args .k in
+    let ready = s .pre .0 in
+    let columns = key-columns b (ready .accepted) k (s .pre .1) (width .ensures .0) (ps .result) (ps .ensures) (cs .result) (cs .ensures) in
+    let xs = standing b a ready (child .result) (child .ensures .1) (children .result) (children .ensures) in
+    let ys = standing b a ready (parent .result) (parent .ensures .1) (parents .result) (parents .ensures) in
+    ((xs, ys), (child-wide b k _ _ _ columns, parent-in b k _ _ _ columns (parent .ensures .0) (parents .ensures)))
 
 returns : tie.Need-returns
 returns c =
     let s = c .before .before .before .before .before .before .before .before .before .before .before in
+    let child = c .before .before .before .before .before .before .before .before .before .child in
+    let children = c .before .before .before .before .before .before .before .before .rows-of in
+    let parent = c .before .before .before .before .before .before .before .parent in
+    let parents = c .before .before .before .before .before .before .rows-of2 in
+    let width = c .before .before .before .before .before .width in
+    let cs = c .before .before .before .before .child-columns in
+    let ps = c .before .before .before .parent-columns in
     let b = s .args .schema .now in
     let a = s .args .area .now in
-    let at : ℕ → List Row = λ t. getD (tablesIn b a) t [] in
-    let children = rows-are b a (s .pre .0) (c .before .before .before .before .before .before .before .before .before .child .result) (c .before .before .before .before .before .before .before .before .before .child .ensures .1) (c .before .before .before .before .before .before .before .before .rows-of .result) (c .before .before .before .before .before .before .before .before .rows-of .ensures) ∙ ap at (c .before .before .before .before .before .before .before .before .before .child .ensures .0) in
-    let parents = rows-are b a (s .pre .0) (c .before .before .before .before .before .before .before .parent .result) (c .before .before .before .before .before .before .before .parent .ensures .1) (c .before .before .before .before .before .before .rows-of2 .result) (c .before .before .before .before .before .before .rows-of2 .ensures) ∙ ap at (c .before .before .before .before .before .before .before .parent .ensures .0) in
-    let columns = key-columns b (s .pre .0 .accepted) (s .args .k) (s .pre .1) (c .before .before .before .before .before .width .ensures .0) (c .before .before .before .parent-columns .result) (c .before .before .before .parent-columns .ensures) (c .before .before .before .before .child-columns .result) (c .before .before .before .before .child-columns .ensures) in
-    let key = keyOf (schemaOf b) (s .args .k) in
-    first-is (orphan-by key (columns .child-is) (columns .parent-is) _ ∙ ap (orphan key) parents) children (c .seek .ensures)
+    let k = s .args .k in
+    let ready = s .pre .0 in
+    let columns = key-columns b (ready .accepted) k (s .pre .1) (width .ensures .0) (ps .result) (ps .ensures) (cs .result) (cs .ensures) in
+    let key = keyOf (schemaOf b) k in
+    let rows : ℕ → List Row = λ t. getD (tablesIn b a) t [] in
+    let xs = rows-are b a ready (child .result) (child .ensures .1) (children .result) (children .ensures) ∙ ap rows (child .ensures .0) in
+    let ys = rows-are b a ready (parent .result) (parent .ensures .1) (parents .result) (parents .ensures) ∙ ap rows (parent .ensures .0) in
+    first-is (orphan-by key (columns .child-is) (columns .parent-is) _ ∙ ap (orphan key) ys) xs (c .seek .ensures)
 
 pub next-row-spec : {M : Type 1} → statement M
 next-row-spec =

@@ -3,10 +3,9 @@ use Prim.Native.Nat.{_+_, _*_, _-_, _≤_}
 use native.Mathlib.Nat.{zero-add}
 use native.Mathlib.Omega.{arith}
 use borrow.Author.Needs.{needs}
-use lib.ListN.{length, drop}
+use lib.ListN.{drop}
 use Rattle.schema.specs.Fields.{schemaOf}
 use Rattle.rules.specs.OrphanList.{orphanTotal}
-use Rattle.bridge.specs.Fit.{workOf}
 use Rattle.orphan_scan.proofs.ScanLaws.{tablesIn, total-none, total-more}
 use Rattle.orphan_scan.proofs.orphan_total.Statement.{statement}
 use Rattle.orphan_scan.proofs.orphan_total.Tie as tie
