@@ -4,11 +4,13 @@ use mathlib.Core.Path.{_≡_}
 use mathlib.Core.Bool.{Bool, true, false}
 use mathlib.Core.List.{List, [], _∷_, _++_, map}
 use Prim.Native.Nat.{ℕ, suc, _≤_, _<_}
-use lib.IntN.{ℤ}
+use lib.IntN.{ℤ, pos}
 use lib.ListN.{length, getD, drop}
 use Rattle.schema.specs.Records.{ForeignKey}
 use Rattle.schema.specs.Fields.{schemaOf}
 use Rattle.rules.specs.declared.Orphan.{Orphan}
+use Rattle.rules.specs.declared.Refusal.{Refusal}
+use Rattle.rules.specs.Refusals.{number}
 use Rattle.rules.specs.Rows.{Row, Tables}
 use Rattle.rules.specs.Keys.{orphan}
 use Rattle.rules.specs.OrphanList.{listAnswer}
@@ -54,5 +56,5 @@ pub record Planned (bs : List ℕ) (ws : List ℤ) (room : ℕ) (x : Plan) : Typ
   pub small : x .first .row < 1024
 
 -- the plan where a check refuses
-abbrev pub refusedBy : ℕ → Plan
-refusedBy code = record { answer = record { code = code; count = 0 }; first = record { key = 0; row = 0 } }
+abbrev pub refusedBy : Refusal → Plan
+refusedBy c = record { answer = record { code = pos (number c); count = 0 }; first = record { key = 0; row = 0 } }

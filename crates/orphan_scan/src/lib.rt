@@ -17,6 +17,7 @@ ghost use Rattle.orphan_scan.specs.Scan.{orphansFrom, orphansAfter, Firs
 use rows::TableRows;
 use rules::Listed;
 use rules::Orphan;
+use rules::Refusal;
 use schema::SchemaAnswer;
 
 // What is found before the list is written: the answer, and the first orphan where there is one.
@@ -121,9 +122,10 @@ fn orphan_total(schema: &[u8], area: &[i64]) -> usize
 }
 
 // The plan where the list is refused.
-fn refused(code: usize) -> Plan
-    ensures { λ x. ⌜ x ≡ refusedBy code ⌝ }
+fn refused(refusal: Refusal) -> Plan
+    ensures { λ x. ⌜ x ≡ refusedBy refusal ⌝ }
 {
+    let code = answers::refusal_number(refusal);
     Plan {
         answer: Listed {
             code: code,
@@ -140,7 +142,7 @@ fn plan_rows(schema: &[u8], area: &[i64], room: usize) -> Plan
 {
     let total = orphan_total(schema, area);
     if room < total {
-        return refused(22);
+        return refused(Refusal::ListTooShort);
     }
     let first = first_from(schema, area, 0, 0);
     Plan {
@@ -158,10 +160,10 @@ fn plan_area(schema: &[u8], area: &[i64], room: usize) -> Plan
     ensures { λ x. ⌜ Planned (now (schema .entry)) (now (area .entry)) room x ⌝ }
 {
     if area.len() != fields::area_length(schema) {
-        return refused(3);
+        return refused(Refusal::WrongLength);
     }
     if !area_form::is_undamaged(schema, area) {
-        return refused(10);
+        return refused(Refusal::Damaged);
     }
     plan_rows(schema, area, room)
 }
@@ -171,8 +173,8 @@ pub fn plan_list(schema: &[u8], area: &[i64], room: usize) -> Plan
     ensures { λ x. ⌜ Planned (now (schema .entry)) (now (area .entry)) room x ⌝ }
 {
     match schema_check::check_schema(schema) {
-        SchemaAnswer::Malformed => refused(1),
-        SchemaAnswer::Unmatched => refused(2),
+        SchemaAnswer::Malformed => refused(Refusal::SchemaMalformed),
+        SchemaAnswer::Unmatched => refused(Refusal::SchemaUnmatched),
         SchemaAnswer::Accepted => plan_area(schema, area, room),
     }
 }

@@ -5,7 +5,7 @@ use mathlib.Core.Bool.{Bool, not, _&&_}
 use mathlib.Core.List.{List, [], _∷_}
 use Prim.Native.Nat.{ℕ, _+_}
 use lib.Dec.{ltb, eqb}
-use lib.IntN.{ℤ}
+use lib.IntN.{ℤ, pos}
 use lib.ListN.{length, getD, take, drop}
 use Rattle.schema.specs.declared.SchemaAnswer.{SchemaAnswer}
 use Rattle.schema.specs.declared.SchemaAnswer.the-variants.{Accepted, Malformed, Unmatched}
@@ -16,7 +16,7 @@ use Rattle.schema.specs.Sizes.{areaSize}
 use Rattle.rules.specs.declared.Refusal.the-variants.{SchemaMalformed, SchemaUnmatched, WrongLength, Damaged, ListTooShort}
 use Rattle.rules.specs.declared.Orphan.{Orphan}
 use Rattle.rules.specs.declared.Listed.{Listed}
-use Rattle.rules.specs.Lists.{count, one}
+use Rattle.rules.specs.Lists.{𝟘, count, one}
 use Rattle.rules.specs.Refusals.{failing, number}
 use Rattle.rules.specs.declared.Verdict.{Verdict}
 use Rattle.rules.specs.declared.Verdict.the-variants.{Pass, Fail}
@@ -62,8 +62,8 @@ listVerdict bs ws room =
 
 -- "The answer is code 0 and their number; refused, the code and 0."
 unfoldable pub listed : Verdict → ℕ → Listed
-listed Pass n = record { code = 0; count = n }
-listed (Fail r) n = record { code = number r; count = 0 }
+listed Pass n = record { code = 𝟘; count = n }
+listed (Fail r) n = record { code = pos (number r); count = 0 }
 
 -- the answer, where the lent list has `room` records
 unfoldable pub listAnswer : List ℕ → List ℤ → ℕ → Listed

@@ -60,6 +60,6 @@ pub struct Orphan {
 // The answer of the orphan list: the paper's code, and how many orphans there are.
 #[repr(C)]
 pub struct Listed {
-    pub code: usize,
+    pub code: i64,
     pub count: usize,
 }
