@@ -78,6 +78,7 @@ use Rattle.orphan_list.proofs.list_orphans.Statement as stated
 use Rattle.orphan_list.proofs.list_orphans.Code as code
 use Rattle.orphan_list.proofs.list_orphans.Code.Mir as body
 
+-- ---- the structs: a record of the list, the answer, the plan
 abbrev R : RattleType
 R = T.the-row
 
@@ -87,6 +88,7 @@ Q = S.the-row
 abbrev PR : RattleType
 PR = P.the-row
 
+-- of the parameters, the list alone has a last value
 abbrev stayed : Stays (f.ended .signature .params) (f.ended .kept)
 stayed = (stay-none-slice (0 ∷ []) tt (plain (λ _. u8)) yes, (stay-none-slice (1 ∷ []) tt (plain (λ _. i64)) yes, (stay-slice (2 ∷ []) tt (plain (λ _. R)), tt)))
 
@@ -145,6 +147,7 @@ module _ {M : Type 1} (𝓤 : URA M) (H : Heap 𝓤) (A : Atoms 𝓤) where
     typed-plan : (e : Plan) (vs : List Val) → Is PR e vs → Typed (PR .mir) vs
     typed-plan = LL.lawful P.the-type P′.the-laws 𝓤 H A W .typed
 
+-- the two parts of a plan
 answer-is : (x : Plan) → Is PR x (machP x ∷ []) → Is Q (x .answer) (machL (x .answer) ∷ [])
 answer-is x is = LL.owed P.the-type P′.the-laws x _ is .0
 
@@ -164,6 +167,7 @@ module _ {M : Type 1} (𝓤 : URA M) (H : Heap 𝓤) (A : Atoms 𝓤) (W : Given
   abbrev L : ℕ → List Orphan
   L i = laid os ys i
 
+  -- the arguments, and their machine values
   abbrev Arg : Type 0
   Arg = RefT (List ℕ) × (RefT (List ℤ) × (RefT (List Orphan) × Unit {0}))
 
@@ -211,6 +215,7 @@ module _ {M : Type 1} (𝓤 : URA M) (H : Heap 𝓤) (A : Atoms 𝓤) (W : Given
   abbrev Bor : List Orphan → Item 𝓤
   Bor l = ‵ (fbor κ₂ (Held R (length l) b o γ))
 
+  -- what is answered
   abbrev answer : Listed
   answer = listAnswer (now bs) (now ar) (length ys)
 
@@ -218,6 +223,7 @@ module _ {M : Type 1} (𝓤 : URA M) (H : Heap 𝓤) (A : Atoms 𝓤) (W : Given
   abbrev End : List Orphan → List (Item 𝓤)
   End l = Obs l ∷ Bor l ∷ ‵ (flft κ₂ q₂) ∷ ‵ (flft κ₀ q₀) ∷ ‵ (flft κ₁ q₁) ∷ ‵ OwnB ∷ ‵ OwnA ∷ []
 
+  -- it gives what the contract says, once as many records are written as are answered
   exits : (r : Listed) (i : ℕ) → Is Q r (machL r ∷ []) → r ≡ answer → r .count ≤ length ys → i ≡ r .count
       → ent 𝓤 (⋆ 𝓤 H A (End (L i))) (Post (machL r))
   exits r i is e low at-end =
@@ -278,6 +284,7 @@ module _ {M : Type 1} (𝓤 : URA M) (H : Heap 𝓤) (A : Atoms 𝓤) (W : Given
   two-areas : ent 𝓤 (⋆ 𝓤 H A (‵ OwnA ∷ [])) (⋆ 𝓤 H A ((‵ OwnA ⊛ ‵ OwnA) ∷ []))
   two-areas = shr-slice-copy 𝓤 H A W (named 1) κ₁ i64 .twice ar (av ∷ [])
 
+  -- the types of the locals
   abbrev word : Ty
   word = tyInt w64
 
@@ -326,6 +333,7 @@ module _ {M : Type 1} (𝓤 : URA M) (H : Heap 𝓤) (A : Atoms 𝓤) (W : Given
 
     -- ---- the loop, once `plan_list` has answered r
     module _ (r : Plan) (r-is : Is PR r (machP r ∷ [])) (r-ok : Planned (now bs) (now ar) (length ys) r) where
+      -- how many records are to be written
       abbrev n : ℕ
       n = r .answer .count
 
@@ -384,7 +392,7 @@ module _ {M : Type 1} (𝓤 : URA M) (H : Heap 𝓤) (A : Atoms 𝓤) (W : Given
           move ! (1 ∷ []) $ discard ! $ owned ! R (Is R) (plain-orphan 𝓤 H A) (u .next) _ (u .is) $ move ! (1 ∷ 0 ∷ []) $
           elem-put ! R fullShare (L (u .i)) (u .i) (u .next) (machO (u .next) ∷ []) b o in-L $
           closes-slice ! tt R (L (u .i)) (set (L (u .i)) (u .i) (u .next)) (length-set (L (u .i)) (u .i) (u .next)) b o $
-          rewrite ! 0 Obs (written) refl $ rewrite ! 1 Bor (written) refl $
+          rewrite ! 0 Obs written refl $ rewrite ! 1 Bor written refl $
           -- [obs; the borrow; the token; _12; …; bytes's token; area's token; what bytes owns; what area owns]: the call, with copies of what the shared slices own
           move ! (31 ∷ []) $ use1 W (‵ OwnB ⊛ ‵ OwnB) two-bytes $ split ! $
           move ! (33 ∷ []) $ use1 W (‵ OwnA ⊛ ‵ OwnA) two-areas $ split ! $
@@ -458,12 +466,14 @@ module _ {M : Type 1} (𝓤 : URA M) (H : Heap 𝓤) (A : Atoms 𝓤) (W : Given
       by-test u true t = more u t
       by-test u false t = ends u t
 
+      -- every turn
       turns : (u : Turn) → Sq W (At u) (runs C Λ En body.turn-1 (anyQ (Turned u)))
       turns u = by-test u (ltb (u .i) n) refl
 
       abbrev start : Turn
       start = record { i = 0; next = r .first; low = zero-le; is = first-is r r-is; small = r-ok .small; heads = r-ok .first }
 
+      -- the loop
       looped : Sq W (At start) (runs C Λ En body.t-7 (atRet En Post))
       looped = first ! $ blocks ! $ loops ! 𝓣 Nearer Nearer-wf At turns start
 
