@@ -38,7 +38,7 @@ module _ (k : ForeignKey) {cs ps : List ℕ} (e : cs ≡ k .childColumns) (f : p
       point : (y : Row) → serves (keyBy cs ps) x y ≡ serves k x y
       point y = rw (e, f)
 
-  orphan-by : (ys : List Row) → orphan (keyBy cs ps) ys ≡ orphan k ys
+  pub orphan-by : (ys : List Row) → orphan (keyBy cs ps) ys ≡ orphan k ys
   unfolding orphan due keyBy
   orphan-by ys = λ i x. point x i
     where

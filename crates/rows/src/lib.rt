@@ -449,7 +449,7 @@ pub fn is_orphan_row(
 }
 
 // 1 where the child row at p is an orphan, else 0.
-fn orphan_number(
+pub fn orphan_number(
     area: &[i64],
     p: usize,
     w: usize,

@@ -5,7 +5,7 @@ use mathlib.Core.Bool.{Bool, not, _&&_}
 use mathlib.Core.List.{List, [], _∷_}
 use Prim.Native.Nat.{ℕ, _+_}
 use lib.Dec.{ltb, eqb}
-use lib.IntN.{ℤ}
+use lib.IntN.{ℤ, pos}
 use lib.ListN.{length, getD, take, drop}
 use Rattle.schema.specs.declared.SchemaAnswer.{SchemaAnswer}
 use Rattle.schema.specs.declared.SchemaAnswer.the-variants.{Accepted, Malformed, Unmatched}
@@ -15,9 +15,8 @@ use Rattle.schema.specs.Check.{checkSchema}
 use Rattle.schema.specs.Sizes.{areaSize}
 use Rattle.rules.specs.declared.Refusal.the-variants.{SchemaMalformed, SchemaUnmatched, WrongLength, Damaged, ListTooShort}
 use Rattle.rules.specs.declared.Orphan.{Orphan}
-use Rattle.rules.specs.declared.Listing.{Listing}
-use Rattle.rules.specs.declared.Listing.the-variants.{Listed, NotListed}
-use Rattle.rules.specs.Lists.{count, one}
+use Rattle.rules.specs.declared.Listed.{Listed}
+use Rattle.rules.specs.Lists.{𝟘, count, one}
 use Rattle.rules.specs.Refusals.{failing, number}
 use Rattle.rules.specs.declared.Verdict.{Verdict}
 use Rattle.rules.specs.declared.Verdict.the-variants.{Pass, Fail}
@@ -36,6 +35,7 @@ unfoldable pub orphanTotal : List ForeignKey → Tables → ℕ
 orphanTotal [] tabs = 0
 orphanTotal (k ∷ ks) tabs = orphans tabs k + orphanTotal ks tabs
 
+-- the record of row r under foreign key k
 unfoldable pub isRecord : ℕ → ℕ → Orphan → Bool
 isRecord k r o = eqb (o .key) k && eqb (o .row) r
 
@@ -45,6 +45,7 @@ pub record HoldsOrphans (s : Schema) (tabs : Tables) (before after : List Orphan
   pub rest : drop (orphanTotal (s .keys) tabs) after ≡ drop (orphanTotal (s .keys) tabs) before
   pub size : length after ≡ length before
 
+-- refusals 1 and 2 come before the other checks
 unfoldable pub schemaVerdict : SchemaAnswer → Verdict → Verdict
 schemaVerdict Accepted v = v
 schemaVerdict Malformed v = Fail SchemaMalformed
@@ -59,15 +60,21 @@ listVerdict bs ws room =
     (failing (not (legible s ws && undamaged s (view s ws))) Damaged
     (failing (ltb room (orphanTotal (s .keys) (view s ws .work .tabs))) ListTooShort Pass)))
 
-unfoldable pub listed : Verdict → ℕ → Listing
-listed Pass n = Listed n
-listed (Fail r) n = NotListed r
+-- "The answer is code 0 and their number; refused, the code and 0."
+unfoldable pub listed : Verdict → ℕ → Listed
+listed Pass n = record { code = 𝟘; count = n }
+listed (Fail r) n = record { code = pos (number r); count = 0 }
 
 -- the answer, where the lent list has `room` records
-unfoldable pub listAnswer : List ℕ → List ℤ → ℕ → Listing
+unfoldable pub listAnswer : List ℕ → List ℤ → ℕ → Listed
 listAnswer bs ws room = listed (listVerdict bs ws room) (orphanTotal (schemaOf bs .keys) (view (schemaOf bs) ws .work .tabs))
 
--- "The answer is code 0 and their number; refused, the code and 0."
-unfoldable pub listShown : Listing → ℕ × ℕ
-listShown (Listed n) = (0, n)
-listShown (NotListed r) = (number r, 0)
+-- what becomes of a lent list that held `before`; refused, it stays as it was
+unfoldable pub ListLeft : Verdict → Schema → Tables → List Orphan → List Orphan → Type 0
+ListLeft Pass s tabs before after = HoldsOrphans s tabs before after
+ListLeft (Fail r) s tabs before after = after ≡ before
+
+-- the orphan list: the answer x, and the lent list
+pub record ListsOrphans (bs : List ℕ) (ws : List ℤ) (before after : List Orphan) (x : Listed) : Type 0 where
+  pub answer : x ≡ listAnswer bs ws (length before)
+  pub list : ListLeft (listVerdict bs ws (length before)) (schemaOf bs) (view (schemaOf bs) ws .work .tabs) before after

@@ -50,15 +50,16 @@ pub enum Answer {
     Refused(Refusal),
 }
 
-// A record of the orphan list.
+// A record of the orphan list: a foreign key and a row of its child table.
 #[repr(C)]
 pub struct Orphan {
     pub key: usize,
     pub row: usize,
 }
 
-// The answer of the orphan list: how many there are, or a refusal.
-pub enum Listing {
-    Listed(usize),
-    NotListed(Refusal),
+// The answer of the orphan list: the paper's code, and how many orphans there are.
+#[repr(C)]
+pub struct Listed {
+    pub code: i64,
+    pub count: usize,
 }

@@ -1,0 +1,4 @@
+-- What the proofs of several functions use.
+pub mod ScanLaws
+pub mod PlanLaws
+pub mod EachOnce

@@ -1,0 +1,28 @@
+use borrow.Author.Needs.{needs}
+use Rattle.orphan_scan.proofs.PlanLaws.{too-short, planned}
+use Rattle.orphan_scan.proofs.plan_rows.Statement.{statement}
+use Rattle.orphan_scan.proofs.plan_rows.Tie as tie
+
+orphan-total-requires : tie.Need-orphan-total-requires
+orphan-total-requires c κs = search needs
+
+refused-requires : tie.Need-refused-requires
+refused-requires c κs = search needs
+
+returns : tie.Need-returns
+returns c =
+    let s = c .before .before .before .before in
+    too-short (s .args .schema .now) (s .args .area .now) (s .args .room) (s .pre) (c .before .before .orphan-total .result) (c .before .before .orphan-total .ensures) (c .refused .ensures) (c .before .if1 .taken)
+
+first-from-requires : tie.Need-first-from-requires
+first-from-requires c κs = search needs
+
+returns-2 : tie.Need-returns-2
+returns-2 c =
+    let s = c .before .before .before .before in
+    planned (s .args .schema .now) (s .args .area .now) (s .args .room) (s .pre) (c .before .before .orphan-total .result) (c .before .before .orphan-total .ensures) (c .before .if1 .left) (c .first-from .ensures)
+
+pub plan-rows-spec : {M : Type 1} → statement M
+plan-rows-spec =
+    tie.close
+    (tie.spec orphan-total-requires refused-requires returns first-from-requires returns-2)
