@@ -5,7 +5,10 @@ ghost use lib.IntN.{pos};
 ghost use Rattle.schema.specs.Check;
 ghost use Rattle.engine.specs.Calls.{areaWords};
 ghost use Rattle.engine.specs.Runs.{callWords};
+ghost use Rattle.rules.specs.OrphanList.{ListsOrphans};
 ghost use Rattle.capi.specs.Shown.{freshCode};
+use rules::Listed;
+use rules::Orphan;
 
 // The answer to a call.
 #[repr(C)]
@@ -58,4 +61,22 @@ pub extern "C" fn hoofbook_call(schema: &[u8], area: &mut [i64], call: &[i64]) -
         changed: answer[1],
         net: answer[2],
     }
+}
+
+// Lists all orphans, or refuses by 1, 2, 3, 10 or 22 with nothing written: the one function that writes records into a lent slice of structs.
+#[no_mangle]
+pub extern "C" fn hoofbook_list_orphans(schema: &[u8], area: &[i64], list: &mut [Orphan]) -> Listed
+    ensures { λ x. ⌜ ListsOrphans (now (schema .entry)) (now (area .entry)) (now (list .entry)) (now (list .exit)) x ⌝ }
+{
+    let plan = orphan_scan::plan_list(schema, area, list.len());
+    let answer = plan.answer;
+    let n = answer.count;
+    let mut next = plan.first;
+    let mut i = 0;
+    while i < n {
+        list[i] = next;
+        next = orphan_scan::next_orphan(schema, area, next);
+        i += 1;
+    }
+    answer
 }

@@ -1,4 +1,4 @@
--- `list_orphans` meets its contract: a walk of its MIR, by hand. `plan_list` is called once, before the loop; each turn stores one record in the lent list and calls `next_orphan`.
+-- `hoofbook_list_orphans` meets its contract: a walk of its MIR, by hand. `plan_list` is called once, before the loop; each turn stores one record in the lent list and calls `next_orphan`.
 -- The loop's invariant is the whole context, with the next orphan. The variant is the count less the records written. Assumes nothing.
 use mathlib.Core.Path.{_≡_, refl, sym, ap, subst}
 use Prim.Native.Nat.{ℕ, suc, zero, _+_, _-_, _*_, _<_, _≤_, _^_, zero-le}
@@ -71,12 +71,12 @@ use Rattle.orphan_scan.proofs.next_orphan as g
 use Rattle.orphan_scan.proofs.next_orphan.Symbol as g-def
 use Rattle.orphan_scan.proofs.next_orphan.Symbol.{name as #next-orphan}
 use Rattle.orphan_scan.proofs.next_orphan.Met as g-thm
-use Rattle.orphan_list.proofs.ListLaws.{laid, laid-zero, laid-length, laid-next, next-heads, all, count-low, list-left}
-use Rattle.orphan_list.proofs.list_orphans.Key.{name as #list-orphans}
-use Rattle.orphan_list.proofs.list_orphans as f
-use Rattle.orphan_list.proofs.list_orphans.Statement as stated
-use Rattle.orphan_list.proofs.list_orphans.Code as code
-use Rattle.orphan_list.proofs.list_orphans.Code.Mir as body
+use Rattle.capi.proofs.ListLaws.{laid, laid-zero, laid-length, laid-next, next-heads, all, count-low, list-left}
+use Rattle.capi.proofs.hoofbook_list_orphans.Key.{name as #hoofbook-list-orphans}
+use Rattle.capi.proofs.hoofbook_list_orphans as f
+use Rattle.capi.proofs.hoofbook_list_orphans.Statement as stated
+use Rattle.capi.proofs.hoofbook_list_orphans.Code as code
+use Rattle.capi.proofs.hoofbook_list_orphans.Code.Mir as body
 
 -- ---- the structs: a record of the list, the answer, the plan
 abbrev R : RattleType
@@ -527,9 +527,9 @@ module _ {M : Type 1} (𝓤 : URA M) (H : Heap 𝓤) (A : Atoms 𝓤) (W : Given
       planned 𝓣 known-plan known-next l₀ l₁ l₂ l₃ l₄ l₅ l₆ l₇ l₈ l₉ l₁₀ l₁₁ l₁₂)))))))))))))
 
 module _ {M : Type 1} (𝓤 : URA M) (H : Heap 𝓤) (A : Atoms 𝓤) (W : Given 𝓤 H A) (at-mem : Memory → SProp 𝓤) (run : Routine → Fun 𝓤) where
-  list-orphans-walks : (𝓣 : Tables 𝓤 H) → KnowsPlan 𝓤 H A at-mem run 𝓣 → KnowsNext 𝓤 H A at-mem run 𝓣
+  hoofbook-list-orphans-walks : (𝓣 : Tables 𝓤 H) → KnowsPlan 𝓤 H A at-mem run 𝓣 → KnowsNext 𝓤 H A at-mem run 𝓣
       → Walks 𝓤 H A f.ended stayed (WpFn 𝓤 H (𝓣 .C) (𝓣 .Λ) code.function) (f.clauses 𝓤 H A at-mem run)
-  list-orphans-walks 𝓣 known-plan known-next =
+  hoofbook-list-orphans-walks 𝓣 known-plan known-next =
       walked 𝓤 H A f.ended stayed (f.clauses 𝓤 H A at-mem run) (WpFn 𝓤 H (𝓣 .C) (𝓣 .Λ) code.function)
       (λ κs. (slice-vals, (slice-vals, (slice-vals, tt))))
       (λ κs. (shr-slice-tells (named 0) (κs .0) u8, (shr-slice-tells (named 1) (κs .1 .0) i64, (mut-slice-tells (named 2) (κs .1 .1 .0) R, tt))))
@@ -540,18 +540,18 @@ module _ {M : Type 1} (𝓤 : URA M) (H : Heap 𝓤) (A : Atoms 𝓤) (W : Given
   goes : AllGo 𝓤 H A W 3 (f.signature .params) (f.ended .kept) stayed
   goes = (goes-none-slice 𝓤 H A W 3 (0 ∷ []) tt (plain (λ _. u8)) yes, (goes-none-slice 𝓤 H A W 3 (1 ∷ []) tt (plain (λ _. i64)) yes, (goes-slice 𝓤 H A W 3 2 tt (plain (λ _. R)), tt)))
 
-list-orphans-meets : {M : Type 1} (𝓤 : URA M) (H : Heap 𝓤) (A : Atoms 𝓤) → Given 𝓤 H A → (at-mem : Memory → SProp 𝓤) (run : Routine → Fun 𝓤) (𝓣 : Tables 𝓤 H)
+hoofbook-list-orphans-meets : {M : Type 1} (𝓤 : URA M) (H : Heap 𝓤) (A : Atoms 𝓤) → Given 𝓤 H A → (at-mem : Memory → SProp 𝓤) (run : Routine → Fun 𝓤) (𝓣 : Tables 𝓤 H)
     → KnowsPlan 𝓤 H A at-mem run 𝓣 → KnowsNext 𝓤 H A at-mem run 𝓣
     → Meets 𝓤 H A f.signature (WpFn 𝓤 H (𝓣 .C) (𝓣 .Λ) code.function) (f.spec 𝓤 H A at-mem run)
-list-orphans-meets 𝓤 H A W at-mem run 𝓣 known-plan known-next =
+hoofbook-list-orphans-meets 𝓤 H A W at-mem run 𝓣 known-plan known-next =
     walk-meets 𝓤 H A f.ended stayed W (goes 𝓤 H A W at-mem run) (f.clauses 𝓤 H A at-mem run) (WpFn 𝓤 H (𝓣 .C) (𝓣 .Λ) code.function)
-    (WpFn-mono 𝓤 H (W .laws) 𝓣 code.function) (list-orphans-walks 𝓤 H A W at-mem run 𝓣 known-plan known-next)
+    (WpFn-mono 𝓤 H (W .laws) 𝓣 code.function) (hoofbook-list-orphans-walks 𝓤 H A W at-mem run 𝓣 known-plan known-next)
 
-pub list-orphans-spec : {M : Type 1} → stated.statement M
+pub hoofbook-list-orphans-spec : {M : Type 1} → stated.statement M
 unfolding code.routine tablesOf
-list-orphans-spec 𝓤 H 𝓜 𝓖 𝓡 =
+hoofbook-list-orphans-spec 𝓤 H 𝓜 𝓖 𝓡 =
     entered 𝓤 H (tripleOf 𝓤 H (𝓖 .A) f.signature (f.spec 𝓤 H (𝓖 .A) (𝓜 .mem) (𝓡 .run)))
-    (tables 𝓤 H 𝓜 𝓡 code.env .C) (tables 𝓤 H 𝓜 𝓡 code.env .Λ) #list-orphans code.function (code.unfolded 𝓤 H 𝓜 𝓡)
-    (list-orphans-meets 𝓤 H (𝓖 .A) (givenOf 𝓤 H 𝓜 𝓖) (𝓜 .mem) (𝓡 .run) (tablesOf 𝓤 H 𝓜 (tables 𝓤 H 𝓜 𝓡 code.env))
+    (tables 𝓤 H 𝓜 𝓡 code.env .C) (tables 𝓤 H 𝓜 𝓡 code.env .Λ) #hoofbook-list-orphans code.function (code.unfolded 𝓤 H 𝓜 𝓡)
+    (hoofbook-list-orphans-meets 𝓤 H (𝓖 .A) (givenOf 𝓤 H 𝓜 𝓖) (𝓜 .mem) (𝓡 .run) (tablesOf 𝓤 H 𝓜 (tables 𝓤 H 𝓜 𝓡 code.env))
     (cited 𝓤 H (PlanList 𝓤 H (𝓖 .A) (𝓜 .mem) (𝓡 .run)) 𝓜 𝓡 code.env #plan-list p-def.routine code.calls-orphan-scan·plan-list (p-thm.met 𝓤 H 𝓜 𝓖 𝓡))
     (cited 𝓤 H (NextOrphan 𝓤 H (𝓖 .A) (𝓜 .mem) (𝓡 .run)) 𝓜 𝓡 code.env #next-orphan g-def.routine code.calls-orphan-scan·next-orphan (g-thm.met 𝓤 H 𝓜 𝓖 𝓡)))
