@@ -5,9 +5,14 @@ mod breaks_header;
 mod breaks_keys;
 mod breaks_parents;
 mod breaks_tables;
+mod differences;
 mod engine;
 mod harmless;
+mod inputs;
+mod model;
+mod operations;
 mod random;
+mod replay;
 mod report;
 mod schema_changed;
 mod schema_mistakes;
@@ -16,6 +21,8 @@ mod schema_records;
 mod schema_view;
 mod schemas;
 mod slices;
+mod suite_operations;
+mod suite_replay;
 mod suite_schema;
 
 use random::Random;
@@ -25,7 +32,7 @@ use std::process::ExitCode;
 const DEFAULT_SEED: u64 = 0x686F_6F66;
 
 /// The suites, in the order in which they run.
-const SUITES: &[fn(&mut Random, &mut Report)] = &[suite_schema::run];
+const SUITES: &[fn(&mut Random, &mut Report)] = &[suite_schema::run, suite_operations::run, suite_replay::run];
 
 /// The number in the environment variable SEED, if it is set.
 fn seed() -> Result<u64, String> {

@@ -70,7 +70,7 @@ fn number(r: &mut Random) -> i64 {
 }
 
 /// The tables and unique masks that a foreign key can refer to.
-fn parents(tables: &[Table]) -> Vec<(usize, u8)> {
+pub fn parents(tables: &[Table]) -> Vec<(usize, u8)> {
     let masks = tables.iter().enumerate();
     masks
         .flat_map(|(t, table)| table.unique.map(|mask| (t, mask)))
@@ -78,7 +78,7 @@ fn parents(tables: &[Table]) -> Vec<(usize, u8)> {
         .collect()
 }
 
-fn key(r: &mut Random, tables: &[Table], parents: &[(usize, u8)]) -> Key {
+pub fn key(r: &mut Random, tables: &[Table], parents: &[(usize, u8)]) -> Key {
     let (parent, mask) = r.pick(parents);
     let mut parent_columns: Vec<u8> = (0..8).filter(|i| mask >> i & 1 == 1).collect();
     r.shuffle(&mut parent_columns);

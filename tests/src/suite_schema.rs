@@ -1,7 +1,8 @@
 //! The check of schema bytes: the engine against the model, on damaged, valid and random slices.
 
 use crate::breaks::{self, Break};
-use crate::engine;
+use crate::differences::hex;
+use crate::engine::{Built, Engine};
 use crate::random::Random;
 use crate::report::Report;
 use crate::schema_mistakes::{self, Mistake};
@@ -80,13 +81,15 @@ impl Judge {
         for mistake in self.mistakes.iter_mut().filter(|m| !m.caught) {
             mistake.caught = (mistake.code)(bytes) != code;
         }
-        let found = engine::check_schema(bytes);
+        let found = Built.check_schema(bytes);
         let expected = expected.unwrap_or(code);
         if outcome.is_ok() && (found != code || expected != code) {
-            let hex: String = bytes.iter().map(|b| format!("{:02X}", b)).collect();
             *outcome = Err(format!(
                 "engine {}, model {}, expected {}; bytes {}",
-                found, code, expected, hex
+                found,
+                code,
+                expected,
+                hex(bytes)
             ));
         }
     }
@@ -98,11 +101,10 @@ impl Judge {
             "{} slices: {} accepted, {} refused by 1, {} refused by 2",
             all, accepted, first, second
         );
-        let least = LEAST_OF_A_CODE;
-        report.test("slices", at_least(LEAST_SLICES, all));
-        report.test("accepted slices", at_least(least, accepted));
-        report.test("slices refused by 1", at_least(least, first));
-        report.test("slices refused by 2", at_least(least, second));
+        report.at_least("slices", LEAST_SLICES, all);
+        report.at_least("accepted slices", LEAST_OF_A_CODE, accepted);
+        report.at_least("slices refused by 1", LEAST_OF_A_CODE, first);
+        report.at_least("slices refused by 2", LEAST_OF_A_CODE, second);
     }
 
     fn count_mistakes(&self, report: &mut Report) {
@@ -116,13 +118,5 @@ impl Judge {
             };
             report.test(&format!("mistake: {}", mistake.name), outcome);
         }
-    }
-}
-
-fn at_least(least: usize, count: usize) -> Outcome {
-    if count >= least {
-        Ok(())
-    } else {
-        Err(format!("{}, and not {} or more", count, least))
     }
 }

@@ -1,0 +1,49 @@
+//! The form of an area: refusal 10.
+
+use super::area::Area;
+
+/// What must hold of the words of an area. Each is asked only if those before it hold.
+pub const FORMS: &[fn(&Area) -> bool] = &[
+    header_in_range,
+    header_in_accord,
+    |area| numbers_in_range(area, area.kept()),
+    |area| (1..=area.open()).all(|level| numbers_in_range(area, &area.level(level)[1..])),
+    first_level_use,
+    later_level_uses,
+    |area| (0..area.used()).all(|record| area.journal_place(record).is_some()),
+];
+
+fn header_in_range(area: &Area) -> bool {
+    let header = &area.words[..4];
+    (0..=9).contains(&header[0])
+        && (0..=2).contains(&header[1])
+        && (0..=area.schema.room as i64).contains(&header[2])
+        && header[3] == 0
+}
+
+fn header_in_accord(area: &Area) -> bool {
+    let header = &area.words[..4];
+    match header[0] {
+        0 => header[1] == 0 && header[2] == 0,
+        _ => header[1] != 0,
+    }
+}
+
+/// Kept numbers are from 0 to the child's rows, and 0 past the foreign keys.
+fn numbers_in_range(area: &Area, numbers: &[i64]) -> bool {
+    let schema = area.schema;
+    numbers.iter().enumerate().all(|(k, number)| {
+        let key = schema.keys.get(k);
+        let most = key.map_or(0, |key| schema.tables[key.child].rows);
+        (0..=most as i64).contains(number)
+    })
+}
+
+fn first_level_use(area: &Area) -> bool {
+    area.open() == 0 || area.level(1)[0] == 0
+}
+
+fn later_level_uses(area: &Area) -> bool {
+    let use_of = |level| area.level(level)[0];
+    (2..=area.open()).all(|level| (use_of(level - 1)..=area.words[2]).contains(&use_of(level)))
+}
