@@ -9,6 +9,7 @@ mod differences;
 mod engine;
 mod harmless;
 mod inputs;
+mod mistakes;
 mod model;
 mod operations;
 mod random;
@@ -21,6 +22,7 @@ mod schema_records;
 mod schema_view;
 mod schemas;
 mod slices;
+mod suite_mistakes;
 mod suite_operations;
 mod suite_replay;
 mod suite_schema;
@@ -32,7 +34,7 @@ use std::process::ExitCode;
 const DEFAULT_SEED: u64 = 0x686F_6F66;
 
 /// The suites, in the order in which they run.
-const SUITES: &[fn(&mut Random, &mut Report)] = &[suite_schema::run, suite_operations::run, suite_replay::run];
+const SUITES: &[fn(&mut Random, &mut Report)] = &[suite_schema::run, suite_operations::run, suite_replay::run, suite_mistakes::run];
 
 /// The number in the environment variable SEED, if it is set.
 fn seed() -> Result<u64, String> {

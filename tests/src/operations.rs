@@ -164,18 +164,18 @@ fn start(r: &mut Random) -> (Ground, Vec<i64>, usize) {
             let area = areas::filled(r, &ground);
             (ground, area, 4)
         }
-        1..=10 => {
+        1..=13 => {
             let ground = grounds::chain(r);
             let area = areas::chained(r, &ground);
-            (ground, area, 3)
+            (ground, area, 4)
         }
-        11..=25 => {
-            let ground = grounds::small(r);
+        14..=26 => {
+            let ground = grounds::collisions(r);
             let area = areas::filled(r, &ground);
             (ground, area, 10)
         }
         _ => {
-            let ground = grounds::small(r);
+            let ground = grounds::collisions(r);
             let area = ground.fresh();
             (ground, area, 60)
         }

@@ -49,7 +49,7 @@ impl Replay {
         let ground = if r.once_in(10) {
             grounds::chain(r)
         } else {
-            grounds::small(r)
+            grounds::collisions(r)
         };
         let run = self.first_run(engine, r, &ground)?;
         let left = strike::left(&run.calls, &run.codes);

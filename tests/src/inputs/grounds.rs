@@ -30,6 +30,15 @@ impl Ground {
     }
 }
 
+/// A schema on which keys collide.
+pub fn collisions(r: &mut Random) -> Ground {
+    if r.once_in(3) {
+        tangled(r)
+    } else {
+        small(r)
+    }
+}
+
 /// Up to four tables of a few rows, and up to six foreign keys.
 pub fn small(r: &mut Random) -> Ground {
     let values = domain(r);
@@ -116,6 +125,49 @@ pub fn chain(r: &mut Random) -> Ground {
     let room = r.pick(&[8, 16, 17, 32, 40]);
     let values = (0..=rows as i64).collect();
     Ground::new(Records::new(room, vec![table], keys), values)
+}
+
+/// Keys of one width between one or two tables, their columns shared, their actions seldom NO ACTION:
+/// one change often follows from another.
+pub fn tangled(r: &mut Random) -> Ground {
+    let values: Vec<i64> = (0..=r.between(1, 3) as i64).collect();
+    let width = r.between(1, 2);
+    let count = r.between(1, 2);
+    let tables: Vec<Table> = (0..count).map(|_| tangled_table(r, &values, width)).collect();
+    let keys = (0..r.between(1, 4)).map(|_| tangled_key(r, count, width)).collect();
+    let room = r.pick(&[8, 20, 40, 60]);
+    Ground::new(Records::new(room, tables, keys), values)
+}
+
+fn tangled_table(r: &mut Random, values: &[i64], width: usize) -> Table {
+    let mut defaults = [0; 8];
+    defaults[..3].fill_with(|| r.pick(values));
+    Table {
+        rows: r.pick(&[3, 4, 6]),
+        columns: 3,
+        not_null: 0,
+        unique: [low_bits(width), 0, 0, 0],
+        default_null: 0,
+        zeros: [0; 7],
+        defaults,
+    }
+}
+
+fn tangled_key(r: &mut Random, tables: usize, width: usize) -> Key {
+    let (mut child_columns, mut parent_columns) = ([0, 1, 2], [0, 1]);
+    r.shuffle(&mut child_columns);
+    r.shuffle(&mut parent_columns[..width]);
+    Key {
+        child: r.between(0, tables - 1) as u8,
+        parent: r.between(0, tables - 1) as u8,
+        deferred: r.between(0, 1) as u8,
+        on_delete: r.pick(&[0, 1, 2, 3, 3, 4, 4]),
+        on_update: r.pick(&[0, 1, 2, 3, 3, 4, 4]),
+        count: width as u8,
+        child_columns: four(&child_columns[..width]),
+        parent_columns: four(&parent_columns[..width]),
+        zeros: [0; 2],
+    }
 }
 
 /// A valid schema of any size.
