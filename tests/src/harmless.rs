@@ -40,7 +40,7 @@ pub const HARMLESS: &[Break] = &[
 ];
 
 /// Schema S.
-fn paper() -> Schema {
+pub fn paper() -> Schema {
     let table = Table {
         rows: 4,
         columns: 1,

@@ -6,6 +6,7 @@ mod breaks_keys;
 mod breaks_parents;
 mod breaks_tables;
 mod differences;
+mod edges;
 mod engine;
 mod harmless;
 mod inputs;
@@ -22,11 +23,13 @@ mod schema_records;
 mod schema_view;
 mod schemas;
 mod slices;
+mod suite_edges;
 mod suite_mistakes;
 mod suite_operations;
 mod suite_replay;
 mod suite_schema;
 
+use engine::Built;
 use random::Random;
 use report::Report;
 use std::process::ExitCode;
@@ -34,7 +37,7 @@ use std::process::ExitCode;
 const DEFAULT_SEED: u64 = 0x686F_6F66;
 
 /// The suites, in the order in which they run.
-const SUITES: &[fn(&mut Random, &mut Report)] = &[suite_schema::run, suite_operations::run, suite_replay::run, suite_mistakes::run];
+const SUITES: &[fn(&mut Random, &mut Report)] = &[suite_schema::run, suite_operations::run, suite_replay::run, suite_edges::run, suite_mistakes::run];
 
 /// The number in the environment variable SEED, if it is set.
 fn seed() -> Result<u64, String> {
@@ -47,6 +50,10 @@ fn seed() -> Result<u64, String> {
 }
 
 fn main() -> ExitCode {
+    if std::env::args().nth(1).as_deref() == Some("edge-cases") {
+        print!("{}", edges::text(&Built));
+        return ExitCode::SUCCESS;
+    }
     let seed = match seed() {
         Ok(seed) => seed,
         Err(message) => {
