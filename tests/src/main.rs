@@ -1,5 +1,6 @@
 //! Tests of the record engine. Each suite reports its tests by name; the last line counts them.
 
+mod alike;
 mod breaks;
 mod breaks_header;
 mod breaks_keys;
@@ -23,11 +24,13 @@ mod schema_records;
 mod schema_view;
 mod schemas;
 mod slices;
+mod sqlite;
 mod suite_edges;
 mod suite_mistakes;
 mod suite_operations;
 mod suite_replay;
 mod suite_schema;
+mod suite_sqlite;
 
 use engine::Built;
 use random::Random;
@@ -37,7 +40,7 @@ use std::process::ExitCode;
 const DEFAULT_SEED: u64 = 0x686F_6F66;
 
 /// The suites, in the order in which they run.
-const SUITES: &[fn(&mut Random, &mut Report)] = &[suite_schema::run, suite_operations::run, suite_replay::run, suite_edges::run, suite_mistakes::run];
+const SUITES: &[fn(&mut Random, &mut Report)] = &[suite_schema::run, suite_operations::run, suite_replay::run, suite_sqlite::run, suite_edges::run, suite_mistakes::run];
 
 /// The number in the environment variable SEED, if it is set.
 fn seed() -> Result<u64, String> {

@@ -92,7 +92,7 @@ pub const ALL: &[Mistake] = &[
 ];
 
 /// The child rows that have the old key now.
-fn having(area: &Area, key: &Key, old: &Row) -> Vec<usize> {
+pub fn having(area: &Area, key: &Key, old: &Row) -> Vec<usize> {
     let rows = area.live_rows(key.child).into_iter();
     rows.filter(|(_, row)| equal(&key.child_key(row), old))
         .map(|(number, _)| number)
