@@ -95,7 +95,10 @@ impl Alike {
         self.calls += 1;
         self.accepted += usize::from(accepted);
         if (answer.code == 0) != accepted {
-            return Err(format!("answer {}, accepted by SQLite: {}", answer, accepted));
+            return Err(format!(
+                "answer {}, accepted by SQLite: {}",
+                answer, accepted
+            ));
         }
         for (table, found) in rows(ground, area).into_iter().enumerate() {
             let kept = database.rows(table);
@@ -110,7 +113,9 @@ impl Alike {
 fn other_orders() -> Vec<Model> {
     let changes: [fn(&mut Rules); 4] = [
         |rules| rules.key_sequence = |keys| keys.into_iter().rev().collect(),
-        |rules| rules.turns = |area, key, _| (0..area.schema.tables[key.child].rows).rev().collect(),
+        |rules| {
+            rules.turns = |area, key, _| (0..area.schema.tables[key.child].rows).rev().collect()
+        },
         |rules| {
             rules.key_sequence = |keys| keys.into_iter().rev().collect();
             rules.turns = |area, key, _| (0..area.schema.tables[key.child].rows).rev().collect();

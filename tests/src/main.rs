@@ -14,6 +14,7 @@ mod inputs;
 mod mistakes;
 mod model;
 mod operations;
+mod program;
 mod random;
 mod replay;
 mod report;
@@ -28,6 +29,7 @@ mod sqlite;
 mod suite_edges;
 mod suite_mistakes;
 mod suite_operations;
+mod suite_program;
 mod suite_replay;
 mod suite_schema;
 mod suite_sqlite;
@@ -39,8 +41,18 @@ use std::process::ExitCode;
 
 const DEFAULT_SEED: u64 = 0x686F_6F66;
 
-/// The suites, in the order in which they run.
-const SUITES: &[fn(&mut Random, &mut Report)] = &[suite_schema::run, suite_operations::run, suite_replay::run, suite_sqlite::run, suite_edges::run, suite_mistakes::run];
+type Suite = fn(&mut Random, &mut Report);
+
+/// The suites with their names, in the order in which they run.
+const SUITES: &[(&str, Suite)] = &[
+    ("schema", suite_schema::run),
+    ("operations", suite_operations::run),
+    ("replay", suite_replay::run),
+    ("edges", suite_edges::run),
+    ("sqlite", suite_sqlite::run),
+    ("program", suite_program::run),
+    ("mistakes", suite_mistakes::run),
+];
 
 /// The number in the environment variable SEED, if it is set.
 fn seed() -> Result<u64, String> {
@@ -52,8 +64,10 @@ fn seed() -> Result<u64, String> {
     }
 }
 
+/// Runs the suites named as arguments, or all. The argument `edge-cases` prints that text instead.
 fn main() -> ExitCode {
-    if std::env::args().nth(1).as_deref() == Some("edge-cases") {
+    let names: Vec<String> = std::env::args().skip(1).collect();
+    if names == ["edge-cases"] {
         print!("{}", edges::text(&Built));
         return ExitCode::SUCCESS;
     }
@@ -66,8 +80,10 @@ fn main() -> ExitCode {
     };
     println!("SEED={}", seed);
     let mut report = Report::default();
-    for suite in SUITES {
-        suite(&mut Random::new(seed), &mut report);
+    for (name, suite) in SUITES {
+        if names.is_empty() || names.iter().any(|n| n == name) {
+            suite(&mut Random::new(seed), &mut report);
+        }
     }
     report.finish()
 }

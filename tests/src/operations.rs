@@ -121,8 +121,17 @@ impl Operations {
     }
 
     /// Compares the orphan list as a set, in a list of about the length needed.
-    fn orphans(&mut self, engine: &dyn Engine, r: &mut Random, schema: &[u8], area: &[i64]) -> Outcome {
-        let needed = self.model.orphans(schema, area).map_or(0, |list| list.len());
+    fn orphans(
+        &mut self,
+        engine: &dyn Engine,
+        r: &mut Random,
+        schema: &[u8],
+        area: &[i64],
+    ) -> Outcome {
+        let needed = self
+            .model
+            .orphans(schema, area)
+            .map_or(0, |list| list.len());
         let room = r.edged(needed.saturating_sub(1), needed + 3);
         let mut found_list = vec![BLANK; room];
         let mut expected_list = found_list.clone();
@@ -135,7 +144,12 @@ impl Operations {
         if found == expected && found_list == expected_list {
             return Ok(());
         }
-        Err(of_orphans(schema, area, (found, &found_list), (expected, &expected_list)))
+        Err(of_orphans(
+            schema,
+            area,
+            (found, &found_list),
+            (expected, &expected_list),
+        ))
     }
 }
 

@@ -62,7 +62,12 @@ impl Replay {
 
     /// Runs a random list. The codes are those of the model, which runs beside; after each call the
     /// kept numbers and the commit sent next are held to the orphans counted.
-    fn first_run(&self, engine: &dyn Engine, r: &mut Random, ground: &Ground) -> Result<Run, String> {
+    fn first_run(
+        &self,
+        engine: &dyn Engine,
+        r: &mut Random,
+        ground: &Ground,
+    ) -> Result<Run, String> {
         let (mut area, mut beside) = (made_fresh(engine, ground)?, ground.fresh());
         let (mut calls, mut codes, mut answers) = (Vec::new(), Vec::new(), Vec::new());
         for _ in 0..r.between(20, 200) {
@@ -129,7 +134,10 @@ fn commit_next(
         after == words
     };
     if answer != Answer::refused(code) || !ended {
-        return Err(format!("commit sent next: answer {}, code {}", answer, code));
+        return Err(format!(
+            "commit sent next: answer {}, code {}",
+            answer, code
+        ));
     }
     Ok(())
 }
@@ -153,7 +161,10 @@ fn second_run(engine: &dyn Engine, ground: &Ground, run: &Run, left: &[usize]) -
         }
     }
     if area != run.area {
-        let why = format!("second run, first as model: {}", first_words(&area, &run.area));
+        let why = format!(
+            "second run, first as model: {}",
+            first_words(&area, &run.area)
+        );
         return Err(told(ground, &run.calls, &why));
     }
     Ok(())

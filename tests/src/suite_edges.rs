@@ -21,8 +21,13 @@ fn compare(engine: &dyn Engine) -> Result<(), String> {
     if text == STORED {
         return Ok(());
     }
-    let (found, stored): (Vec<&str>, Vec<&str>) = (text.lines().collect(), STORED.lines().collect());
-    let at = found.iter().zip(&stored).take_while(|(a, b)| a == b).count();
+    let (found, stored): (Vec<&str>, Vec<&str>) =
+        (text.lines().collect(), STORED.lines().collect());
+    let at = found
+        .iter()
+        .zip(&stored)
+        .take_while(|(a, b)| a == b)
+        .count();
     let line = |lines: &[&str]| lines.get(at).unwrap_or(&"the end").to_string();
     let (found, stored) = (line(&found), line(&stored));
     Err(format!("line {}: '{}', stored '{}'", at + 1, found, stored))

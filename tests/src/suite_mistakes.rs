@@ -1,5 +1,6 @@
 //! The tests can fail: each mistaken engine is caught by a part of them.
 
+use crate::alike::Alike;
 use crate::engine::Engine;
 use crate::mistakes;
 use crate::operations::Operations;
@@ -17,7 +18,11 @@ const PARTS: &[Part] = &[
     }),
     ("lists replayed", |engine, r| {
         let mut replay = Replay::new();
-        (0..300).any(|_| replay.trial(engine, r).is_err())
+        (0..200).any(|_| replay.trial(engine, r).is_err())
+    }),
+    ("SQLite", |engine, r| {
+        let mut alike = Alike::new();
+        (0..200).any(|_| alike.trial(engine, r).is_err())
     }),
 ];
 
@@ -36,5 +41,9 @@ pub fn run(r: &mut Random, report: &mut Report) {
         };
         report.test(&format!("mistake: {}", name), outcome);
     }
-    println!("{} of {} mistaken engines caught", caught_all, engines.len());
+    println!(
+        "{} of {} mistaken engines caught",
+        caught_all,
+        engines.len()
+    );
 }

@@ -25,7 +25,11 @@ pub fn run(r: &mut Random, report: &mut Report) {
         operations.calls,
         operations.others
     );
-    let shown: Vec<String> = operations.codes.iter().map(|(c, n)| format!("{}: {}", c, n)).collect();
+    let shown: Vec<String> = operations
+        .codes
+        .iter()
+        .map(|(c, n)| format!("{}: {}", c, n))
+        .collect();
     println!("by code: {}", shown.join(", "));
     report.test("single operations", outcome);
     for code in CODES {

@@ -21,5 +21,9 @@ pub fn run(r: &mut Random, report: &mut Report) {
     );
     report.test("lists replayed", outcome);
     report.at_least("lists", LEAST_LISTS, replay.lists);
-    report.at_least("lists that end inside a transaction", LEAST_OPEN, replay.open);
+    report.at_least(
+        "lists that end inside a transaction",
+        LEAST_OPEN,
+        replay.open,
+    );
 }

@@ -4,7 +4,13 @@ use super::build::*;
 use super::*;
 
 pub fn cases() -> Vec<Case> {
-    vec![row_states(), level_states(), not_null_and_unique(), deferred_outside(), restrict_at_16()]
+    vec![
+        row_states(),
+        level_states(),
+        not_null_and_unique(),
+        deferred_outside(),
+        restrict_at_16(),
+    ]
 }
 
 /// A table without foreign keys.
@@ -28,7 +34,8 @@ fn row_states() -> Case {
 
 fn level_states() -> Case {
     Case {
-        title: "Begin inside a transaction; commit, rollback and levels without one; level 1 of begin",
+        title:
+            "Begin inside a transaction; commit, rollback and levels without one; level 1 of begin",
         schema: alone(2, 1, &[]),
         steps: vec![
             commit(),

@@ -9,13 +9,28 @@ pub fn cases() -> Vec<Case> {
         eight_calls(),
         chain("A chain of 16 rows: deleting its root changes 16", 16, 32),
         chain("A chain of 17 rows: too deep", 17, 32),
-        chain("A chain of 17 rows and a journal of 16: too deep, not full", 17, 16),
+        chain(
+            "A chain of 17 rows and a journal of 16: too deep, not full",
+            17,
+            16,
+        ),
         journal_full(),
         refers_to_itself(),
-        two_keys("CASCADE as key 0 and RESTRICT as key 1 on one child", CASCADE, RESTRICT),
-        two_keys("RESTRICT as key 0 and CASCADE as key 1 on one child", RESTRICT, CASCADE),
+        two_keys(
+            "CASCADE as key 0 and RESTRICT as key 1 on one child",
+            CASCADE,
+            RESTRICT,
+        ),
+        two_keys(
+            "RESTRICT as key 0 and CASCADE as key 1 on one child",
+            RESTRICT,
+            CASCADE,
+        ),
         nine_levels("Nine levels opened by begin; the tenth refused", begin()),
-        nine_levels("Nine levels opened by savepoint; the tenth refused", savepoint()),
+        nine_levels(
+            "Nine levels opened by savepoint; the tenth refused",
+            savepoint(),
+        ),
     ]
 }
 
@@ -64,7 +79,11 @@ fn refers_to_itself() -> Case {
     Case {
         title: "A row that refers to itself under RESTRICT is deleted",
         schema: to_itself(2, 8, RESTRICT),
-        steps: vec![insert(0, 0, &[Some(1), Some(1)]), delete(0, 0), Step::ShowRows],
+        steps: vec![
+            insert(0, 0, &[Some(1), Some(1)]),
+            delete(0, 0),
+            Step::ShowRows,
+        ],
     }
 }
 

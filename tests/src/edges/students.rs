@@ -9,8 +9,14 @@ pub fn cases() -> Vec<Case> {
         key_left_equal("An update that leaves the key equal: no CASCADE", CASCADE),
         composite_with_null(),
         newest_first(),
-        restrict_at_once("RESTRICT strikes while the statement runs, not at commit", RESTRICT),
-        restrict_at_once("A deferred key with NO ACTION waits until commit", NO_ACTION),
+        restrict_at_once(
+            "RESTRICT strikes while the statement runs, not at commit",
+            RESTRICT,
+        ),
+        restrict_at_once(
+            "A deferred key with NO ACTION waits until commit",
+            NO_ACTION,
+        ),
         three_children(),
         set_default_without_parent(),
         set_null(),

@@ -15,9 +15,16 @@ pub fn schema_lines(schema: &Schema) -> Vec<String> {
 }
 
 fn table_words(table: &Table) -> String {
-    let size = format!("{} of {}", count(table.rows, "row"), count(table.columns, "column"));
+    let size = format!(
+        "{} of {}",
+        count(table.rows, "row"),
+        count(table.columns, "column")
+    );
     let not_null = table.not_null.iter().map(|c| format!(", NOT NULL c{}", c));
-    let unique = table.unique.iter().map(|key| format!(", unique {}", columns(key)));
+    let unique = table
+        .unique
+        .iter()
+        .map(|key| format!(", unique {}", columns(key)));
     let defaults = table.defaults.iter().enumerate();
     let defaults = defaults.filter_map(|(column, default)| match default {
         Some(0) => None,
@@ -34,7 +41,11 @@ fn key_words(key: &Key) -> String {
         columns(&key.child_columns),
         key.parent,
         columns(&key.parent_columns),
-        if key.deferred { "deferred" } else { "immediate" },
+        if key.deferred {
+            "deferred"
+        } else {
+            "immediate"
+        },
         action(key.on_delete),
         action(key.on_update)
     )
@@ -98,7 +109,9 @@ pub fn row_lines(schema: &Schema, area: &[i64]) -> Vec<String> {
     let tables = 0..schema.tables.len();
     let rows = tables.flat_map(|t| area.live_rows(t).into_iter().map(move |row| (t, row)));
     let mut lines: Vec<String> = rows
-        .map(|(table, (number, row))| format!("  holds table {} row {} {}", table, number, values(&row)))
+        .map(|(table, (number, row))| {
+            format!("  holds table {} row {} {}", table, number, values(&row))
+        })
         .collect();
     if lines.is_empty() {
         lines.push("  holds no row".into());

@@ -44,7 +44,12 @@ fn fill_row(r: &mut Random, ground: &Ground, words: &mut [i64]) {
     let columns = words.len() - 1;
     let nulls = i64::from(r.byte() & r.byte() & r.byte());
     let tidy = !r.once_in(8);
-    words[0] = 256 + if tidy { nulls & ((1 << columns) - 1) } else { nulls };
+    words[0] = 256
+        + if tidy {
+            nulls & ((1 << columns) - 1)
+        } else {
+            nulls
+        };
     for (i, word) in words[1..].iter_mut().enumerate() {
         if nulls >> i & 1 == 0 || !tidy {
             *word = r.pick(&ground.values);

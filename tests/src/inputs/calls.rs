@@ -88,13 +88,7 @@ fn new_row(r: &mut Random, ground: &Ground, area: &Area, table: usize) -> Row {
 }
 
 /// The old row with some columns changed, or a new one.
-fn updated(
-    r: &mut Random,
-    ground: &Ground,
-    area: &Area,
-    table: usize,
-    old: Option<Row>,
-) -> Row {
+fn updated(r: &mut Random, ground: &Ground, area: &Area, table: usize, old: Option<Row>) -> Row {
     let Some(mut row) = old.filter(|_| !r.once_in(4)) else {
         return new_row(r, ground, area, table);
     };

@@ -66,7 +66,15 @@ pub fn damaged(r: &mut Random, ground: &Ground, area: &[i64]) -> Vec<i64> {
 /// The words with some taken off, or some more.
 pub fn of_wrong_length(r: &mut Random, area: &[i64]) -> Vec<i64> {
     let mut area = area.to_vec();
-    let length = r.pick(&[0, 1, 332, 333, area.len() - 1, area.len() + 1, area.len() + 10]);
+    let length = r.pick(&[
+        0,
+        1,
+        332,
+        333,
+        area.len() - 1,
+        area.len() + 1,
+        area.len() + 10,
+    ]);
     let length = if length == area.len() { 0 } else { length };
     area.resize(length, 0);
     area
@@ -117,7 +125,11 @@ fn journal_at(ground: &Ground) -> usize {
 fn some_record(r: &mut Random, ground: &Ground, area: &[i64]) -> usize {
     let room = ground.schema.room;
     let used = usize::try_from(area[2]).map_or(0, |used| used.min(room));
-    let count = if used == 0 || r.once_in(4) { room } else { used };
+    let count = if used == 0 || r.once_in(4) {
+        room
+    } else {
+        used
+    };
     journal_at(ground) + 10 * r.between(0, count - 1)
 }
 

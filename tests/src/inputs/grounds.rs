@@ -133,8 +133,12 @@ pub fn tangled(r: &mut Random) -> Ground {
     let values: Vec<i64> = (0..=r.between(1, 3) as i64).collect();
     let width = r.between(1, 2);
     let count = r.between(1, 2);
-    let tables: Vec<Table> = (0..count).map(|_| tangled_table(r, &values, width)).collect();
-    let keys = (0..r.between(1, 4)).map(|_| tangled_key(r, count, width)).collect();
+    let tables: Vec<Table> = (0..count)
+        .map(|_| tangled_table(r, &values, width))
+        .collect();
+    let keys = (0..r.between(1, 4))
+        .map(|_| tangled_key(r, count, width))
+        .collect();
     let room = r.pick(&[8, 20, 40, 60]);
     Ground::new(Records::new(room, tables, keys), values)
 }

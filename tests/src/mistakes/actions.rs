@@ -7,9 +7,12 @@ use crate::model::keys::{equal, full};
 use crate::model::schema::{Action, Key, Row};
 
 pub const ALL: &[Mistake] = &[
-    ("actions after an update that leaves the key equal", |rules| {
-        rules.fires = |old, _| full(old);
-    }),
+    (
+        "actions after an update that leaves the key equal",
+        |rules| {
+            rules.fires = |old, _| full(old);
+        },
+    ),
     ("a composite key with one NULL counted", |rules| {
         rules.asks = |key| key.iter().any(|value| value.is_some());
     }),
@@ -77,18 +80,21 @@ pub const ALL: &[Mistake] = &[
             Some(new)
         };
     }),
-    ("CASCADE upon an update gives columns in table order", |rules| {
-        rules.image = |schema, key, action, child, parent| {
-            let mut new = change::image(schema, key, action, child, parent)?;
-            if let (Action::Cascade, Some(parent)) = (action, parent) {
-                let mut from = key.parent_columns.clone();
-                from.sort();
-                let pairs = key.child_columns.iter().zip(from);
-                pairs.for_each(|(&column, from)| new[column] = parent[from]);
-            }
-            Some(new)
-        };
-    }),
+    (
+        "CASCADE upon an update gives columns in table order",
+        |rules| {
+            rules.image = |schema, key, action, child, parent| {
+                let mut new = change::image(schema, key, action, child, parent)?;
+                if let (Action::Cascade, Some(parent)) = (action, parent) {
+                    let mut from = key.parent_columns.clone();
+                    from.sort();
+                    let pairs = key.child_columns.iter().zip(from);
+                    pairs.for_each(|(&column, from)| new[column] = parent[from]);
+                }
+                Some(new)
+            };
+        },
+    ),
 ];
 
 /// The child rows that have the old key now.

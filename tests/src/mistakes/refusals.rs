@@ -2,6 +2,8 @@
 
 use super::Mistake;
 use crate::model::area::Area;
+use crate::model::change::Change;
+use crate::model::damage::most_kept;
 use crate::model::rules::Rules;
 use crate::model::schema::Row;
 
@@ -21,9 +23,15 @@ pub const ALL: &[Mistake] = &[
     ("the journal's last record not used", |rules| {
         set_check(rules, 15, |area, _| area.used() + 1 < area.schema.room);
     }),
-    ("journal room judged before depth", |rules| rules.checks.swap(0, 1)),
-    ("NOT NULL judged before journal room", |rules| rules.checks.swap(1, 2)),
-    ("unique judged before NOT NULL", |rules| rules.checks.swap(2, 3)),
+    ("journal room judged before depth", |rules| {
+        rules.checks.swap(0, 1)
+    }),
+    ("NOT NULL judged before journal room", |rules| {
+        rules.checks.swap(1, 2)
+    }),
+    ("unique judged before NOT NULL", |rules| {
+        rules.checks.swap(2, 3)
+    }),
     ("unique not judged", |rules| rules.checks.truncate(3)),
     ("NULL in a unique key equals NULL", |rules| {
         set_check(rules, 17, |area, change| {
@@ -31,19 +39,29 @@ pub const ALL: &[Mistake] = &[
             let others = area.live_rows(change.table);
             area.schema.tables[change.table].unique.iter().all(|key| {
                 let of = |row: &Row| -> Row { key.iter().map(|&c| row[c]).collect() };
-                !others.iter().any(|(n, row)| *n != change.row && of(row) == of(new))
+                !others
+                    .iter()
+                    .any(|(n, row)| *n != change.row && of(row) == of(new))
             })
         });
     }),
     ("20 judged before 19", |rules| rules.ends.swap(0, 1)),
-    ("19 not judged", |rules| rules.ends.retain(|end| end.0 != 19)),
+    ("19 not judged", |rules| {
+        rules.ends.retain(|end| end.0 != 19)
+    }),
     ("immediate keys wait inside a transaction", |rules| {
-        set_end(rules, |area, key| area.in_transaction() || area.kept()[key] == 0);
+        set_end(rules, |area, key| {
+            area.in_transaction() || area.kept()[key] == 0
+        });
     }),
     ("deferred keys wait outside a transaction", |rules| {
-        set_end(rules, |area, key| area.schema.keys[key].deferred || area.kept()[key] == 0);
+        set_end(rules, |area, key| {
+            area.schema.keys[key].deferred || area.kept()[key] == 0
+        });
     }),
-    ("a refused statement leaves the journal's words", |rules| rules.refused = |_| {}),
+    ("a refused statement leaves the journal's words", |rules| {
+        rules.refused = |_| {}
+    }),
     ("a row keeps its values when it is deleted", |rules| {
         rules.write = |area, table, row, new| {
             let old = area.row(table, row);
@@ -68,19 +86,40 @@ pub const ALL: &[Mistake] = &[
             area.journal(table, row);
         };
     }),
-    ("mask bits past the columns let pass", |rules| drop_form(rules, 5)),
-    ("values of NULL columns let pass", |rules| drop_form(rules, 6)),
-    ("values past the columns let pass", |rules| drop_form(rules, 7)),
+    ("mask bits past the columns let pass", |rules| {
+        drop_form(rules, 5)
+    }),
+    ("values of NULL columns let pass", |rules| {
+        drop_form(rules, 6)
+    }),
+    ("values past the columns let pass", |rules| {
+        drop_form(rules, 7)
+    }),
     ("unused words let pass", |rules| drop_form(rules, 4)),
-    ("kept numbers not judged by 10", |rules| drop_area_form(rules, 2)),
-    ("saved numbers not judged by 10", |rules| drop_area_form(rules, 3)),
-    ("header words at odds let pass", |rules| drop_area_form(rules, 1)),
-    ("the first level's journal use not judged", |rules| {
-        drop_area_form(rules, 4)
+    (
+        "a kept number one above the child's rows let pass",
+        |rules| {
+            rules.area_forms[2] = |area| numbers_let_pass(area, area.kept());
+        },
+    ),
+    (
+        "a saved number one above the child's rows let pass",
+        |rules| {
+            rules.area_forms[3] = |area| {
+                (1..=area.open()).all(|level| numbers_let_pass(area, &area.level(level)[1..]))
+            };
+        },
+    ),
+    ("header words at odds let pass", |rules| {
+        rules.area_forms.remove(1);
+    }),
+    ("level 1's journal use judged like a later one", |rules| {
+        rules.area_forms[4] =
+            |area| area.open() == 0 || (0..=area.words[2]).contains(&area.level(1)[0]);
     }),
 ];
 
-fn set_check(rules: &mut Rules, code: i64, holds: fn(&Area, &crate::model::change::Change) -> bool) {
+fn set_check(rules: &mut Rules, code: i64, holds: fn(&Area, &Change) -> bool) {
     let slot = rules.checks.iter_mut().find(|check| check.0 == code);
     slot.expect("there is such a check").1 = holds;
 }
@@ -95,9 +134,10 @@ fn drop_form(rules: &mut Rules, number: usize) {
     rules.call_forms.remove(number);
 }
 
-/// Drops one condition of the form of an area.
-fn drop_area_form(rules: &mut Rules, number: usize) {
-    rules.area_forms.remove(number);
+/// Whether kept numbers are at most one above their range.
+fn numbers_let_pass(area: &Area, numbers: &[i64]) -> bool {
+    let mut numbers = numbers.iter().enumerate();
+    numbers.all(|(key, number)| (0..=most_kept(area, key) + 1).contains(number))
 }
 
 /// The state word of a row.

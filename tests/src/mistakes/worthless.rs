@@ -34,11 +34,14 @@ pub fn all() -> Vec<Named> {
             }
             listed
         }),
-        with_orphans("clears the records past the list", |model, schema, area, list| {
-            let listed = model.list_orphans(schema, area, list);
-            list[listed.count as usize..].fill(Orphan::new(0, 0));
-            listed
-        }),
+        with_orphans(
+            "clears the records past the list",
+            |model, schema, area, list| {
+                let listed = model.list_orphans(schema, area, list);
+                list[listed.count as usize..].fill(Orphan::new(0, 0));
+                listed
+            },
+        ),
     ]
 }
 

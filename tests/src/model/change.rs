@@ -34,7 +34,8 @@ fn unique(area: &Area, change: &Change) -> bool {
     let others = area.live_rows(change.table);
     area.schema.tables[change.table].unique.iter().all(|key| {
         let of = |row: &Row| -> Row { key.iter().map(|&c| row[c]).collect() };
-        let other = |(number, row): &(usize, Row)| *number != change.row && equal(&of(row), &of(new));
+        let other =
+            |(number, row): &(usize, Row)| *number != change.row && equal(&of(row), &of(new));
         !others.iter().any(other)
     })
 }

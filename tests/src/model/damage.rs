@@ -29,14 +29,15 @@ fn header_in_accord(area: &Area) -> bool {
     }
 }
 
-/// Kept numbers are from 0 to the child's rows, and 0 past the foreign keys.
+/// The largest kept number of a key: the child's rows, and 0 past the foreign keys.
+pub fn most_kept(area: &Area, key: usize) -> i64 {
+    let key = area.schema.keys.get(key);
+    key.map_or(0, |key| area.schema.tables[key.child].rows as i64)
+}
+
 fn numbers_in_range(area: &Area, numbers: &[i64]) -> bool {
-    let schema = area.schema;
-    numbers.iter().enumerate().all(|(k, number)| {
-        let key = schema.keys.get(k);
-        let most = key.map_or(0, |key| schema.tables[key.child].rows);
-        (0..=most as i64).contains(number)
-    })
+    let mut numbers = numbers.iter().enumerate();
+    numbers.all(|(key, number)| (0..=most_kept(area, key)).contains(number))
 }
 
 fn first_level_use(area: &Area) -> bool {

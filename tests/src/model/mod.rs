@@ -5,6 +5,7 @@ pub mod change;
 pub mod damage;
 pub mod form;
 pub mod keys;
+pub mod program;
 pub mod rules;
 pub mod schema;
 pub mod statement;

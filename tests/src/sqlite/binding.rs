@@ -66,7 +66,13 @@ impl Connection {
         // SAFETY: the connection is open, the text ends with a zero byte, and the handle is put into
         // a place of its own.
         let code = unsafe {
-            sqlite3_prepare_v2(self.db, text.as_ptr(), -1, &mut handle, null_mut::<*const c_char>())
+            sqlite3_prepare_v2(
+                self.db,
+                text.as_ptr(),
+                -1,
+                &mut handle,
+                null_mut::<*const c_char>(),
+            )
         };
         assert_eq!(code, OK, "{}: {}", sql, self.message());
         Statement { handle }
@@ -90,7 +96,9 @@ impl Connection {
         if text == null() {
             return String::new();
         }
-        unsafe { CStr::from_ptr(text) }.to_string_lossy().into_owned()
+        unsafe { CStr::from_ptr(text) }
+            .to_string_lossy()
+            .into_owned()
     }
 }
 

@@ -89,7 +89,10 @@ impl Database {
     /// The rows of a table with their numbers, rising.
     pub fn rows(&self, table: usize) -> Vec<(usize, Row)> {
         let table = &self.tables[table];
-        let rows = table.select.rows(table.columns + 1).expect("rows can be read");
+        let rows = table
+            .select
+            .rows(table.columns + 1)
+            .expect("rows can be read");
         let split = |row: Vec<Value>| {
             let number = row[0].expect("a row has a number");
             (number as usize, row[1..].to_vec())

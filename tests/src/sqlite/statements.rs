@@ -8,7 +8,12 @@ pub fn create_table(schema: &Schema, number: usize) -> String {
     let table = &schema.tables[number];
     let mut parts = vec!["r INTEGER PRIMARY KEY".to_string()];
     parts.extend((0..table.columns).map(|c| column(table, c)));
-    parts.extend(table.unique.iter().map(|key| format!("UNIQUE({})", names(key))));
+    parts.extend(
+        table
+            .unique
+            .iter()
+            .map(|key| format!("UNIQUE({})", names(key))),
+    );
     let keys = schema.keys.iter().rev();
     parts.extend(keys.filter(|key| key.child == number).map(foreign_key));
     format!("CREATE TABLE t{}({})", number, parts.join(", "))
