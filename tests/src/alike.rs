@@ -15,6 +15,7 @@ use crate::model::schema::Row;
 use crate::model::Model;
 use crate::random::Random;
 use crate::sqlite::database::Database;
+use std::cmp::Reverse;
 
 type Outcome = Result<(), String>;
 
@@ -110,28 +111,43 @@ impl Alike {
     }
 }
 
+/// Every order of foreign keys below with every order of child rows below, but for the paper's own.
 fn other_orders() -> Vec<Model> {
-    let changes: [fn(&mut Rules); 4] = [
-        |rules| rules.key_sequence = |keys| keys.into_iter().rev().collect(),
-        |rules| {
-            rules.turns = |area, key, _| (0..area.schema.tables[key.child].rows).rev().collect()
-        },
-        |rules| {
-            rules.key_sequence = |keys| keys.into_iter().rev().collect();
-            rules.turns = |area, key, _| (0..area.schema.tables[key.child].rows).rev().collect();
-        },
-        |rules| {
-            rules.turns = having;
-            rules.equal = |_, _| true;
-        },
-    ];
-    let model = |change: fn(&mut Rules)| {
-        let mut model = Model::of_the_paper();
-        change(&mut model.rules);
-        model
-    };
-    changes.into_iter().map(model).collect()
+    let mut models = Vec::new();
+    for key_order in KEY_ORDERS {
+        for row_order in ROW_ORDERS {
+            let mut model = Model::of_the_paper();
+            key_order(&mut model.rules);
+            row_order(&mut model.rules);
+            models.push(model);
+        }
+    }
+    models.split_off(1)
 }
+
+type Order = fn(&mut Rules);
+
+/// By number; from the last to the first; as SQLite does, child tables from the last to the first.
+const KEY_ORDERS: [Order; 3] = [
+    |_| {},
+    |rules| rules.key_sequence = |_, keys| keys.into_iter().rev().collect(),
+    |rules| {
+        rules.key_sequence = |schema, mut keys| {
+            keys.sort_by_key(|&key| Reverse(schema.keys[key].child));
+            keys
+        }
+    },
+];
+
+/// By number; from the last to the first; as SQLite does, listed before the first is changed.
+const ROW_ORDERS: [Order; 3] = [
+    |_| {},
+    |rules| rules.turns = |area, key, _| (0..area.schema.tables[key.child].rows).rev().collect(),
+    |rules| {
+        rules.turns = having;
+        rules.equal = |_, _| true;
+    },
+];
 
 /// Whether both accept or both refuse, with the same rows and kept numbers.
 fn same_outcome(ground: &Ground, one: (Answer, &[i64]), other: (Answer, &[i64])) -> bool {

@@ -42,7 +42,7 @@ pub const ALL: &[Mistake] = &[
         rules.equal = |one, other| full(one) && one[0] == other[0];
     }),
     ("foreign keys from the last to the first", |rules| {
-        rules.key_sequence = |keys| keys.into_iter().rev().collect();
+        rules.key_sequence = |_, keys| keys.into_iter().rev().collect();
     }),
     ("child rows from the last to the first", |rules| {
         rules.turns = |area, key, _| (0..area.schema.tables[key.child].rows).rev().collect();

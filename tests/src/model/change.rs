@@ -64,7 +64,7 @@ pub fn write(area: &mut Area, table: usize, row: usize, new: Option<&Row>) {
 fn actions(rules: &Rules, area: &mut Area, change: &Change, old: &Row) -> Result<(), i64> {
     let schema = area.schema;
     let keys = (0..schema.keys.len()).filter(|&k| schema.keys[k].parent == change.table);
-    for k in (rules.key_sequence)(keys.collect()) {
+    for k in (rules.key_sequence)(schema, keys.collect()) {
         let key = &schema.keys[k];
         let new_key = change.new.as_ref().map(|row| key.parent_key(row));
         if (rules.fires)(&key.parent_key(old), new_key.as_ref()) {

@@ -29,7 +29,7 @@ pub struct Rules {
     /// The action of a key upon a deletion or an update.
     pub action: fn(&Key, bool) -> Action,
     /// The sequence of foreign keys.
-    pub key_sequence: fn(Vec<usize>) -> Vec<usize>,
+    pub key_sequence: fn(&Schema, Vec<usize>) -> Vec<usize>,
     /// The child rows that come to their turn: of which key, and the old parent key.
     pub turns: fn(&Area, &Key, &Row) -> Vec<usize>,
     /// What an action makes of a child row, given the new parent row.
@@ -73,7 +73,7 @@ impl Rules {
             equal: keys::equal,
             fires: change::fires,
             action: change::action,
-            key_sequence: |keys| keys,
+            key_sequence: |_, keys| keys,
             turns: |area, key, _| (0..area.schema.tables[key.child].rows).collect(),
             image: change::image,
             write: change::write,
