@@ -1,38 +1,17 @@
 //! Tests of the record engine. Each suite reports its tests by name; the last line counts them.
 
-mod alike;
-mod breaks;
-mod breaks_header;
-mod breaks_keys;
-mod breaks_parents;
-mod breaks_tables;
 mod differences;
 mod edges;
 mod engine;
-mod harmless;
 mod inputs;
 mod mistakes;
 mod model;
-mod operations;
-mod program;
 mod random;
-mod replay;
 mod report;
-mod schema_changed;
-mod schema_mistakes;
-mod schema_model;
-mod schema_records;
-mod schema_view;
-mod schemas;
-mod slices;
+mod schema_bytes;
 mod sqlite;
-mod suite_edges;
-mod suite_mistakes;
-mod suite_operations;
-mod suite_program;
-mod suite_replay;
-mod suite_schema;
-mod suite_sqlite;
+mod suites;
+mod trials;
 
 use engine::Built;
 use random::Random;
@@ -40,19 +19,6 @@ use report::Report;
 use std::process::ExitCode;
 
 const DEFAULT_SEED: u64 = 0x686F_6F66;
-
-type Suite = fn(&mut Random, &mut Report);
-
-/// The suites with their names, in the order in which they run.
-const SUITES: &[(&str, Suite)] = &[
-    ("schema", suite_schema::run),
-    ("operations", suite_operations::run),
-    ("replay", suite_replay::run),
-    ("edges", suite_edges::run),
-    ("sqlite", suite_sqlite::run),
-    ("program", suite_program::run),
-    ("mistakes", suite_mistakes::run),
-];
 
 /// The number in the environment variable SEED, if it is set.
 fn seed() -> Result<u64, String> {
@@ -80,7 +46,7 @@ fn main() -> ExitCode {
     };
     println!("SEED={}", seed);
     let mut report = Report::default();
-    for (name, suite) in SUITES {
+    for (name, suite) in suites::ALL {
         if names.is_empty() || names.iter().any(|n| n == name) {
             suite(&mut Random::new(seed), &mut report);
         }

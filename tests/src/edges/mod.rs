@@ -10,7 +10,7 @@ mod words;
 use crate::engine::{Engine, Orphan};
 use crate::inputs::calls::{plain_call, row_call};
 use crate::model::schema::{Schema, Value};
-use crate::schema_records::Schema as Records;
+use crate::schema_bytes::records::Schema as Records;
 use words::{call_words, row_lines, schema_lines};
 
 /// What is done in a case.

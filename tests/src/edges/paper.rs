@@ -2,7 +2,7 @@
 
 use super::build::*;
 use super::*;
-use crate::harmless;
+use crate::schema_bytes::harmless;
 
 pub fn cases() -> Vec<Case> {
     vec![

@@ -89,8 +89,9 @@ fn new_row(r: &mut Random, ground: &Ground, area: &Area, table: usize) -> Row {
 
 /// The old row with some columns changed, or a new one.
 fn updated(r: &mut Random, ground: &Ground, area: &Area, table: usize, old: Option<Row>) -> Row {
-    let Some(mut row) = old.filter(|_| !r.once_in(4)) else {
-        return new_row(r, ground, area, table);
+    let mut row = match old {
+        Some(row) if !r.once_in(4) => row,
+        _ => return new_row(r, ground, area, table),
     };
     for _ in 0..r.between(0, 2) {
         let column = r.between(0, row.len() - 1);

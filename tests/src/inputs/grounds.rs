@@ -2,8 +2,8 @@
 
 use crate::model::schema::Schema;
 use crate::random::Random;
-use crate::schema_records::{Key, Schema as Records, Table};
-use crate::schemas::{any_valid, four, key, low_bits, parents};
+use crate::schema_bytes::records::{Key, Schema as Records, Table};
+use crate::schema_bytes::valid::{any_valid, four, key, low_bits, parents};
 
 /// A valid schema as records, as bytes and as the model reads it, and the values that calls give.
 pub struct Ground {

@@ -108,5 +108,5 @@ pub fn having(area: &Area, key: &Key, old: &Row) -> Vec<usize> {
 /// Whether the row of this number is still its own parent.
 fn refers_to_itself(area: &Area, key: &Key, row: usize, old: &Row) -> bool {
     let own = area.row(key.child, row);
-    key.child == key.parent && own.is_some_and(|own| key.parent_key(&own) == *old)
+    key.child == key.parent && own.map_or(false, |own| key.parent_key(&own) == *old)
 }

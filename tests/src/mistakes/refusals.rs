@@ -2,10 +2,9 @@
 
 use super::Mistake;
 use crate::model::area::Area;
-use crate::model::change::Change;
+use crate::model::change::{unique, Change};
 use crate::model::damage::most_kept;
 use crate::model::rules::Rules;
-use crate::model::schema::Row;
 
 pub const ALL: &[Mistake] = &[
     ("too deep with none used", |rules| {
@@ -35,14 +34,7 @@ pub const ALL: &[Mistake] = &[
     ("unique not judged", |rules| rules.checks.truncate(3)),
     ("NULL in a unique key equals NULL", |rules| {
         set_check(rules, 17, |area, change| {
-            let Some(new) = &change.new else { return true };
-            let others = area.live_rows(change.table);
-            area.schema.tables[change.table].unique.iter().all(|key| {
-                let of = |row: &Row| -> Row { key.iter().map(|&c| row[c]).collect() };
-                !others
-                    .iter()
-                    .any(|(n, row)| *n != change.row && of(row) == of(new))
-            })
+            unique(area, change, |one, other| one == other)
         });
     }),
     ("20 judged before 19", |rules| rules.ends.swap(0, 1)),
@@ -87,35 +79,40 @@ pub const ALL: &[Mistake] = &[
         };
     }),
     ("mask bits past the columns let pass", |rules| {
-        drop_form(rules, 5)
+        drop_form(rules, "mask")
     }),
     ("values of NULL columns let pass", |rules| {
-        drop_form(rules, 6)
+        drop_form(rules, "values of NULL")
     }),
     ("values past the columns let pass", |rules| {
-        drop_form(rules, 7)
+        drop_form(rules, "values of no column")
     }),
-    ("unused words let pass", |rules| drop_form(rules, 4)),
+    ("unused words let pass", |rules| {
+        drop_form(rules, "unused words")
+    }),
     (
         "a kept number one above the child's rows let pass",
         |rules| {
-            rules.area_forms[2] = |area| numbers_let_pass(area, area.kept());
+            set_form(rules, "kept numbers", |area| {
+                numbers_let_pass(area, area.kept())
+            });
         },
     ),
     (
         "a saved number one above the child's rows let pass",
         |rules| {
-            rules.area_forms[3] = |area| {
+            set_form(rules, "saved numbers", |area| {
                 (1..=area.open()).all(|level| numbers_let_pass(area, &area.level(level)[1..]))
-            };
+            });
         },
     ),
     ("header words at odds let pass", |rules| {
-        rules.area_forms.remove(1);
+        set_form(rules, "words 0 to 3 in accord", |_| true);
     }),
     ("level 1's journal use judged like a later one", |rules| {
-        rules.area_forms[4] =
-            |area| area.open() == 0 || (0..=area.words[2]).contains(&area.level(1)[0]);
+        set_form(rules, "journal use of level 1", |area| {
+            area.open() == 0 || (0..=area.words[2]).contains(&area.level(1)[0])
+        });
     }),
 ];
 
@@ -130,8 +127,14 @@ fn set_end(rules: &mut Rules, holds: fn(&Area, usize) -> bool) {
 }
 
 /// Drops one condition of the form of a call.
-fn drop_form(rules: &mut Rules, number: usize) {
-    rules.call_forms.remove(number);
+fn drop_form(rules: &mut Rules, name: &str) {
+    rules.call_forms.retain(|form| form.0 != name);
+}
+
+/// Replaces one condition of the form of an area.
+fn set_form(rules: &mut Rules, name: &str, holds: fn(&Area) -> bool) {
+    let slot = rules.area_forms.iter_mut().find(|form| form.0 == name);
+    slot.expect("there is such a condition").1 = holds;
 }
 
 /// Whether kept numbers are at most one above their range.

@@ -20,7 +20,7 @@ pub const CHECKS: &[Check] = &[
     (14, |_, change| change.depth <= 16),
     (15, |area, _| area.used() < area.schema.room),
     (16, not_null),
-    (17, unique),
+    (17, |area, change| unique(area, change, equal)),
 ];
 
 fn not_null(area: &Area, change: &Change) -> bool {
@@ -29,15 +29,17 @@ fn not_null(area: &Area, change: &Change) -> bool {
     change.new.as_ref().map_or(true, holds)
 }
 
-fn unique(area: &Area, change: &Change) -> bool {
-    let Some(new) = &change.new else { return true };
-    let others = area.live_rows(change.table);
-    area.schema.tables[change.table].unique.iter().all(|key| {
+/// Whether no other live row has an equal unique key.
+pub fn unique(area: &Area, change: &Change, equal: fn(&Row, &Row) -> bool) -> bool {
+    let mut others = area.live_rows(change.table);
+    others.retain(|(number, _)| *number != change.row);
+    let passes = |new: &Row, key: &Vec<usize>| {
         let of = |row: &Row| -> Row { key.iter().map(|&c| row[c]).collect() };
-        let other =
-            |(number, row): &(usize, Row)| *number != change.row && equal(&of(row), &of(new));
-        !others.iter().any(other)
-    })
+        !others.iter().any(|(_, row)| equal(&of(row), &of(new)))
+    };
+    let mut keys = area.schema.tables[change.table].unique.iter();
+    let new = change.new.as_ref();
+    new.map_or(true, |new| keys.all(|key| passes(new, key)))
 }
 
 /// Makes the change and what follows from it, or gives the refusal that was met.
@@ -98,8 +100,9 @@ fn child_rows(
     let action = (rules.action)(key, change.new.is_none());
     for row in (rules.turns)(area, key, old_key) {
         let taken = |child: &Row| (rules.equal)(&key.child_key(child), old_key);
-        let Some(child) = area.row(key.child, row).filter(taken) else {
-            continue;
+        let child = match area.row(key.child, row).filter(taken) {
+            Some(child) => child,
+            None => continue,
         };
         match action {
             Action::NoAction => continue,

@@ -2,15 +2,22 @@
 
 use super::area::Area;
 
-/// What must hold of the words of an area. Each is asked only if those before it hold.
-pub const FORMS: &[fn(&Area) -> bool] = &[
-    header_in_range,
-    header_in_accord,
-    |area| numbers_in_range(area, area.kept()),
-    |area| (1..=area.open()).all(|level| numbers_in_range(area, &area.level(level)[1..])),
-    first_level_use,
-    later_level_uses,
-    |area| (0..area.used()).all(|record| area.journal_place(record).is_some()),
+/// What must hold of the words of an area, with its name.
+pub type Form = (&'static str, fn(&Area) -> bool);
+
+/// Each is asked only if those before it hold.
+pub const FORMS: &[Form] = &[
+    ("words 0 to 3", header_in_range),
+    ("words 0 to 3 in accord", header_in_accord),
+    ("kept numbers", |area| numbers_in_range(area, area.kept())),
+    ("saved numbers", |area| {
+        (1..=area.open()).all(|level| numbers_in_range(area, &area.level(level)[1..]))
+    }),
+    ("journal use of level 1", first_level_use),
+    ("journal use of later levels", later_level_uses),
+    ("journal places", |area| {
+        (0..area.used()).all(|record| area.journal_place(record).is_some())
+    }),
 ];
 
 fn header_in_range(area: &Area) -> bool {

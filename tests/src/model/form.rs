@@ -16,22 +16,25 @@ pub enum Call {
     Commit,
 }
 
-/// What must hold of the words of a call. Each is asked only if those before it hold.
-pub const FORMS: &[fn(&Schema, &[i64]) -> bool] = &[
-    |_, call| call.len() == 12,
-    |_, call| (1..=9).contains(&call[0]),
-    place_exists,
-    level_exists,
-    unused_words,
-    mask_within,
-    values_of_null,
-    values_of_no_column,
+/// What must hold of the words of a call, with its name.
+pub type Form = (&'static str, fn(&Schema, &[i64]) -> bool);
+
+/// Each is asked only if those before it hold.
+pub const FORMS: &[Form] = &[
+    ("twelve words", |_, call| call.len() == 12),
+    ("kind", |_, call| (1..=9).contains(&call[0])),
+    ("table and row", place_exists),
+    ("level", level_exists),
+    ("unused words", unused_words),
+    ("mask", mask_within),
+    ("values of NULL", values_of_null),
+    ("values of no column", values_of_no_column),
 ];
 
 fn place_exists(schema: &Schema, call: &[i64]) -> bool {
     let table = usize::try_from(call[1]).ok();
     let rows = table.and_then(|t| schema.tables.get(t)).map(|t| t.rows);
-    call[0] > 3 || rows.is_some_and(|rows| (0..rows as i64).contains(&call[2]))
+    call[0] > 3 || rows.map_or(false, |rows| (0..rows as i64).contains(&call[2]))
 }
 
 fn level_exists(_: &Schema, call: &[i64]) -> bool {
@@ -69,7 +72,7 @@ fn values_of_no_column(schema: &Schema, call: &[i64]) -> bool {
 
 /// The call, if its words have the form of one.
 pub fn read(rules: &Rules, schema: &Schema, call: &[i64]) -> Option<Call> {
-    if !rules.call_forms.iter().all(|holds| holds(schema, call)) {
+    if !rules.call_forms.iter().all(|form| (form.1)(schema, call)) {
         return None;
     }
     let (a, b) = (call[1] as usize, call[2] as usize);

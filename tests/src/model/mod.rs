@@ -41,7 +41,7 @@ impl Model {
     }
 
     fn judge_damage(&self, area: &Area) -> Result<(), i64> {
-        let whole = self.rules.area_forms.iter().all(|holds| holds(area));
+        let whole = self.rules.area_forms.iter().all(|form| (form.1)(area));
         whole.then_some(()).ok_or(10)
     }
 

@@ -13,9 +13,9 @@ use super::transaction;
 #[derive(Clone)]
 pub struct Rules {
     /// Refusal 4: what must hold of the words of a call.
-    pub call_forms: Vec<fn(&Schema, &[i64]) -> bool>,
+    pub call_forms: Vec<form::Form>,
     /// Refusal 10: what must hold of the words of an area.
-    pub area_forms: Vec<fn(&Area) -> bool>,
+    pub area_forms: Vec<damage::Form>,
     /// The checks of a row change, in order: refusals 14 to 17.
     pub checks: Vec<Check>,
     /// The checks at the end of a statement, in order, each for all keys: refusals 19 and 20.

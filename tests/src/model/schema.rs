@@ -1,7 +1,7 @@
 //! A schema as the model keeps it.
 
-use crate::schema_model::Rules;
-use crate::schema_view::{bit, table_at, View};
+use crate::schema_bytes::rules::Rules;
+use crate::schema_bytes::view::{bit, table_at, View};
 
 /// NULL or a number.
 pub type Value = Option<i64>;

@@ -1,7 +1,8 @@
 //! The functions of libsqlite3 that are used, as safe ones.
 
 use crate::model::schema::Value;
-use std::ffi::{c_char, c_int, c_void, CStr, CString};
+use std::ffi::{CStr, CString};
+use std::os::raw::{c_char, c_int, c_void};
 use std::ptr::{null, null_mut};
 
 const OK: c_int = 0;
@@ -52,9 +53,10 @@ pub struct Connection {
 
 impl Connection {
     pub fn in_memory() -> Connection {
+        let name = CString::new(":memory:").expect("the name has no zero byte");
         let mut db = null_mut();
-        // SAFETY: the name is a text, and `db` is where the library puts the handle.
-        let code = unsafe { sqlite3_open(c":memory:".as_ptr(), &mut db) };
+        // SAFETY: the name ends with a zero byte, and `db` is where the library puts the handle.
+        let code = unsafe { sqlite3_open(name.as_ptr(), &mut db) };
         assert_eq!(code, OK, "SQLite opens a database in memory");
         Connection { db }
     }

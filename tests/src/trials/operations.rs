@@ -1,12 +1,12 @@
 //! Single operations: an engine against the model, answer and every word.
 
-use crate::breaks;
 use crate::differences::{hex, of_call, words};
 use crate::engine::{Engine, Listed, Orphan};
 use crate::inputs::grounds::{self, Ground};
 use crate::inputs::{areas, calls, damages, malformed};
 use crate::model::Model;
 use crate::random::Random;
+use crate::schema_bytes::breaks;
 use std::collections::BTreeMap;
 
 type Outcome = Result<(), String>;

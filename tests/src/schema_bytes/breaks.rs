@@ -1,12 +1,12 @@
 //! Named changes of valid schemas, each with the code that follows.
 
-use crate::breaks_header::HEADER;
-use crate::breaks_keys::KEYS;
-use crate::breaks_parents::PARENTS;
-use crate::breaks_tables::TABLES;
-use crate::harmless::HARMLESS;
 use crate::random::Random;
-use crate::schema_records::Schema;
+use crate::schema_bytes::breaks_header::HEADER;
+use crate::schema_bytes::breaks_keys::KEYS;
+use crate::schema_bytes::breaks_parents::PARENTS;
+use crate::schema_bytes::breaks_tables::TABLES;
+use crate::schema_bytes::harmless::HARMLESS;
+use crate::schema_bytes::records::Schema;
 
 /// A name, the code, and the change. It is made to a valid schema with a foreign key; one that has
 /// no room for the change is left as it is.

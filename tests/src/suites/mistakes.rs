@@ -1,12 +1,12 @@
 //! The tests can fail: each mistaken engine is caught by a part of them.
 
-use crate::alike::Alike;
 use crate::engine::Engine;
 use crate::mistakes;
-use crate::operations::Operations;
 use crate::random::Random;
-use crate::replay::Replay;
 use crate::report::Report;
+use crate::trials::operations::Operations;
+use crate::trials::replay::Replay;
+use crate::trials::sqlite::Alike;
 
 /// A part's name, and whether it catches an engine.
 type Part = (&'static str, fn(&dyn Engine, &mut Random) -> bool);
@@ -18,11 +18,11 @@ const PARTS: &[Part] = &[
     }),
     ("lists replayed", |engine, r| {
         let mut replay = Replay::new();
-        (0..200).any(|_| replay.trial(engine, r).is_err())
+        (0..100).any(|_| replay.trial(engine, r).is_err())
     }),
     ("SQLite", |engine, r| {
         let mut alike = Alike::new();
-        (0..200).any(|_| alike.trial(engine, r).is_err())
+        (0..60).any(|_| alike.trial(engine, r).is_err())
     }),
 ];
 

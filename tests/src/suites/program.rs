@@ -3,9 +3,9 @@
 use crate::differences::hex;
 use crate::model::program::text;
 use crate::model::Model;
-use crate::program::{bytes_of, output, random_input, test_file};
 use crate::random::Random;
 use crate::report::Report;
+use crate::trials::program::{bytes_of, output, random_input, test_file};
 use std::fs;
 
 type Outcome = Result<(), String>;

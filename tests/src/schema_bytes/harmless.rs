@@ -1,8 +1,8 @@
 //! Changes of valid schemas that break no rule.
 
-use crate::breaks::Break;
-use crate::schema_records::{Key, Schema, Table};
-use crate::schemas::{four, valid};
+use crate::schema_bytes::breaks::Break;
+use crate::schema_bytes::records::{Key, Schema, Table};
+use crate::schema_bytes::valid::{four, valid};
 
 pub const HARMLESS: &[Break] = &[
     ("schema S of the paper", 0, |s, _| *s = paper()),

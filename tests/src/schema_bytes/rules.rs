@@ -1,7 +1,7 @@
 //! The section "Schema bytes" of the paper, read as lists of rules. A rule is asked of the header or
 //! of one record, and holds or is broken whatever the other rules say.
 
-use crate::schema_view::{bit, table_at, View};
+use crate::schema_bytes::view::{bit, table_at, View};
 
 /// A rule's name, and whether it holds for the record of a number (0 for the header).
 pub type Rule = (&'static str, fn(View, usize) -> bool);

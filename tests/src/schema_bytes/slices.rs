@@ -1,7 +1,7 @@
 //! Families of random slices.
 
 use crate::random::Random;
-use crate::schemas::{any_valid, four, valid};
+use crate::schema_bytes::valid::{any_valid, four, valid};
 
 pub struct Family {
     pub name: &'static str,

@@ -1,7 +1,7 @@
 //! Breaks of the rules of foreign keys that lead to refusal 1.
 
-use crate::breaks::Break;
 use crate::random::Random;
+use crate::schema_bytes::breaks::Break;
 
 pub const KEYS: &[Break] = &[
     ("a child table missing", 1, |s, r| {

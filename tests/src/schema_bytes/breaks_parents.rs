@@ -1,7 +1,7 @@
 //! Breaks of the rules of parents, which lead to refusal 2, also beside breaks that lead to 1.
 
-use crate::breaks::Break;
-use crate::schema_records::{Key, Table};
+use crate::schema_bytes::breaks::Break;
+use crate::schema_bytes::records::{Key, Table};
 
 pub const PARENTS: &[Break] = &[
     ("a parent table missing", 2, |s, r| {

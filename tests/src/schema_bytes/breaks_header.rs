@@ -1,7 +1,7 @@
 //! Breaks of the header's rules.
 
-use crate::breaks::Break;
-use crate::schemas::table;
+use crate::schema_bytes::breaks::Break;
+use crate::schema_bytes::valid::table;
 
 pub const HEADER: &[Break] = &[
     ("a byte of the mark changed", 1, |s, r| {

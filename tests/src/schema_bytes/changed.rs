@@ -1,7 +1,7 @@
 //! Rules of the paper, each changed by one mistake.
 
-use crate::schema_model::{below, distinct, same_columns};
-use crate::schema_view::{bit, table_at, View};
+use crate::schema_bytes::rules::{below, distinct, same_columns};
+use crate::schema_bytes::view::{bit, table_at, View};
 
 /// The mistake's name, the name of the rule in whose place it stands, and the changed rule.
 pub type Changed = (&'static str, &'static str, fn(View, usize) -> bool);

@@ -1,14 +1,14 @@
 //! The check of schema bytes: the engine against the model, on damaged, valid and random slices.
 
-use crate::breaks::{self, Break};
 use crate::differences::hex;
 use crate::engine::{Built, Engine};
 use crate::random::Random;
 use crate::report::Report;
-use crate::schema_mistakes::{self, Mistake};
-use crate::schema_model::Rules;
-use crate::schemas::any_valid;
-use crate::slices::{Family, FAMILIES};
+use crate::schema_bytes::breaks::{self, Break};
+use crate::schema_bytes::mistakes::{self, Mistake};
+use crate::schema_bytes::rules::Rules;
+use crate::schema_bytes::slices::{Family, FAMILIES};
+use crate::schema_bytes::valid::any_valid;
 
 /// How often each break is made.
 const BREAK_TURNS: usize = 200;
@@ -20,7 +20,7 @@ const LEAST_OF_A_CODE: usize = 1_000;
 pub fn run(r: &mut Random, report: &mut Report) {
     let mut judge = Judge {
         model: Rules::of_the_paper(),
-        mistakes: schema_mistakes::all(),
+        mistakes: mistakes::all(),
         codes: [0; 3],
     };
     for one in breaks::all() {

@@ -1,8 +1,8 @@
 //! Readings of the paper with one mistake each. The tests' inputs must tell each from the model.
 
-use crate::schema_changed::{Changed, CHANGED};
-use crate::schema_model::{hold, Rule, Rules};
-use crate::schema_view::View;
+use crate::schema_bytes::changed::{Changed, CHANGED};
+use crate::schema_bytes::rules::{hold, Rule, Rules};
+use crate::schema_bytes::view::View;
 
 type Reading = Box<dyn Fn(&[u8]) -> i64>;
 

@@ -1,10 +1,10 @@
 //! The built engine against stock SQLite.
 
-use crate::alike::Alike;
 use crate::engine::Built;
 use crate::random::Random;
 use crate::report::Report;
 use crate::sqlite::database::version;
+use crate::trials::sqlite::Alike;
 
 /// How many calls there are to be, and how many that are accepted.
 const LEAST_CALLS: usize = 60_000;

@@ -6,7 +6,7 @@ use crate::model::Model;
 use crate::random::Random;
 use crate::report::Report;
 
-const STORED: &str = include_str!("../expected/edge_cases.txt");
+const STORED: &str = include_str!("../../expected/edge_cases.txt");
 
 pub fn run(_: &mut Random, report: &mut Report) {
     report.test("edge cases by the engine", compare(&Built));

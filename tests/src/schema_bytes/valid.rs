@@ -1,7 +1,7 @@
 //! Valid schemas at random.
 
 use crate::random::Random;
-use crate::schema_records::{Key, Schema, Table};
+use crate::schema_bytes::records::{Key, Schema, Table};
 
 /// A valid schema of these numbers of tables and foreign keys.
 pub fn valid(r: &mut Random, tables: usize, keys: usize) -> Schema {

@@ -2,8 +2,8 @@
 
 use crate::engine::Built;
 use crate::random::Random;
-use crate::replay::Replay;
 use crate::report::Report;
+use crate::trials::replay::Replay;
 
 /// How many lists there are to be, and how many that end inside a transaction.
 const LEAST_LISTS: usize = 3_000;

@@ -1,8 +1,8 @@
 //! Breaks of the rules of tables.
 
-use crate::breaks::Break;
 use crate::random::Random;
-use crate::schema_records::Table;
+use crate::schema_bytes::breaks::Break;
+use crate::schema_bytes::records::Table;
 
 pub const TABLES: &[Break] = &[
     ("rows 0", 1, |s, r| s.any_table(r).rows = 0),

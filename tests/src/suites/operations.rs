@@ -1,9 +1,9 @@
 //! The built engine against the model on single operations.
 
 use crate::engine::Built;
-use crate::operations::Operations;
 use crate::random::Random;
 use crate::report::Report;
+use crate::trials::operations::Operations;
 
 /// How many calls there are to be, and how many of each code.
 const LEAST_CALLS: usize = 300_000;
