@@ -127,8 +127,8 @@ pub fn chain(r: &mut Random) -> Ground {
     Ground::new(Records::new(room, vec![table], keys), values)
 }
 
-/// Keys of one width between one or two tables, their columns shared, their actions seldom NO ACTION:
-/// one change often follows from another.
+/// Keys of one width between one or two tables, their columns shared, their actions seldom NO
+/// ACTION: one change often follows from another.
 pub fn tangled(r: &mut Random) -> Ground {
     let values: Vec<i64> = (0..=r.between(1, 3) as i64).collect();
     let width = r.between(1, 2);

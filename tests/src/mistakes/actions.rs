@@ -3,7 +3,7 @@
 use super::Mistake;
 use crate::model::area::Area;
 use crate::model::change;
-use crate::model::keys::{equal, full};
+use crate::model::keys::{full, having};
 use crate::model::schema::{Action, Key, Row};
 
 pub const ALL: &[Mistake] = &[
@@ -96,14 +96,6 @@ pub const ALL: &[Mistake] = &[
         },
     ),
 ];
-
-/// The child rows that have the old key now.
-pub fn having(area: &Area, key: &Key, old: &Row) -> Vec<usize> {
-    let rows = area.live_rows(key.child).into_iter();
-    rows.filter(|(_, row)| equal(&key.child_key(row), old))
-        .map(|(number, _)| number)
-        .collect()
-}
 
 /// Whether the row of this number is still its own parent.
 fn refers_to_itself(area: &Area, key: &Key, row: usize, old: &Row) -> bool {

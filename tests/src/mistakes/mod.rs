@@ -1,7 +1,7 @@
-//! Engines with one mistake each: the model with one rule of the paper read wrongly, and engines that
-//! are worth nothing. The tests must tell each from the paper's.
+//! Engines with one mistake each: the model with one rule of the paper read wrongly, and engines
+//! that are worth nothing. The tests must tell each from the paper's.
 
-pub mod actions;
+mod actions;
 mod refusals;
 mod transactions;
 mod worthless;

@@ -2,7 +2,7 @@
 
 use super::area::Area;
 use super::rules::Rules;
-use super::schema::Row;
+use super::schema::{Key, Row};
 use std::collections::BTreeSet;
 
 /// Whether no value of the key is NULL.
@@ -13,6 +13,14 @@ pub fn full(key: &Row) -> bool {
 /// Whether two keys are equal. NULL equals nothing.
 pub fn equal(one: &Row, other: &Row) -> bool {
     full(one) && one == other
+}
+
+/// The child rows that have this key, rising.
+pub fn having(area: &Area, key: &Key, wanted: &Row) -> Vec<usize> {
+    let rows = area.live_rows(key.child).into_iter();
+    rows.filter(|(_, row)| equal(&key.child_key(row), wanted))
+        .map(|(number, _)| number)
+        .collect()
 }
 
 /// The child rows that are orphans of a foreign key, rising.

@@ -48,7 +48,8 @@ impl Database {
         }
     }
 
-    /// Whether SQLite accepts the call. It lets an update or a deletion of no row pass: here refused.
+    /// Whether SQLite accepts the call. An update or a deletion of no row, which it lets pass, is
+    /// refused here.
     pub fn call(&mut self, call: &Call) -> bool {
         match call {
             Call::Insert(table, row, new) => self.change(|t| &t.insert, *table, *row, new),

@@ -2,8 +2,8 @@
 
 use crate::model::schema::{Action, Key, Schema, Table};
 
-/// A table with the row number `r` and columns `c0` onwards. SQLite runs the foreign keys declared last
-/// first, so they are declared from the last to the first.
+/// A table with the row number `r` and columns `c0` onwards. SQLite runs the foreign keys declared
+/// last first, so they are declared from the last to the first.
 pub fn create_table(schema: &Schema, number: usize) -> String {
     let table = &schema.tables[number];
     let mut parts = vec!["r INTEGER PRIMARY KEY".to_string()];

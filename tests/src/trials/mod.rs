@@ -1,4 +1,4 @@
-//! Comparisons of an engine with the model, with itself and with SQLite, in trials of random inputs.
+//! Comparisons of an engine with the model, with itself and with SQLite, on random inputs.
 
 pub mod operations;
 pub mod program;

@@ -35,7 +35,8 @@ impl Operations {
         }
     }
 
-    /// Operations on one schema: from an area to the next by calls, and beside them on damaged copies.
+    /// Operations on one schema: from an area to the next by calls, and beside them on damaged
+    /// copies.
     pub fn trial(&mut self, engine: &dyn Engine, r: &mut Random) -> Outcome {
         let (ground, mut area, turns) = start(r);
         for _ in 0..turns {

@@ -7,7 +7,6 @@ use crate::inputs::grounds::{self, Ground};
 use crate::inputs::malformed;
 use crate::model::area::Area;
 use crate::model::keys::orphan_counts;
-use crate::model::rules::Rules;
 use crate::model::{strike, Model};
 use crate::random::Random;
 
@@ -15,7 +14,6 @@ type Outcome = Result<(), String>;
 
 pub struct Replay {
     model: Model,
-    rules: Rules,
     pub lists: usize,
     pub calls: usize,
     /// How many calls were left by striking out.
@@ -36,7 +34,6 @@ impl Replay {
     pub fn new() -> Replay {
         Replay {
             model: Model::of_the_paper(),
-            rules: Rules::of_the_paper(),
             lists: 0,
             calls: 0,
             left: 0,
@@ -81,8 +78,8 @@ impl Replay {
             self.counted(engine, ground, &area)
                 .map_err(|why| told(ground, &calls, &why))?;
         }
-        let pairs = answers.iter().zip(&codes);
-        if let Some(at) = pairs.into_iter().position(|(a, &code)| a.code != code) {
+        let mut pairs = answers.iter().zip(&codes);
+        if let Some(at) = pairs.position(|(answer, &code)| answer.code != code) {
             let why = format!("call {}: answer {}, code {}", at, answers[at], codes[at]);
             return Err(told(ground, &calls, &why));
         }
@@ -100,7 +97,7 @@ impl Replay {
             schema: &ground.schema,
             words: words.to_vec(),
         };
-        let mut counts = orphan_counts(&self.rules, &area);
+        let mut counts = orphan_counts(&self.model.rules, &area);
         counts.resize(32, 0);
         if area.kept() != counts {
             return Err(format!("kept {:?}, counted {:?}", area.kept(), counts));
@@ -118,7 +115,8 @@ impl Replay {
     }
 }
 
-/// Sends a commit on a copy of the area. Accepted, it leaves no transaction; refused, it writes nothing.
+/// Sends a commit on a copy of the area. Accepted, it leaves no transaction; refused, it writes
+/// nothing.
 fn commit_next(
     engine: &dyn Engine,
     ground: &Ground,
@@ -161,10 +159,8 @@ fn second_run(engine: &dyn Engine, ground: &Ground, run: &Run, left: &[usize]) -
         }
     }
     if area != run.area {
-        let why = format!(
-            "second run, first as model: {}",
-            first_words(&area, &run.area)
-        );
+        let words = first_words(&area, &run.area);
+        let why = format!("second run, with the first as model: {}", words);
         return Err(told(ground, &run.calls, &why));
     }
     Ok(())

@@ -1,15 +1,15 @@
 //! An engine against stock SQLite on lists of calls: accepted or refused, and the rows.
 //!
-//! The rule by which calls are left out: a call is sent to neither where the model refuses it by a limit
-//! (13, 14, 15), or where another order of foreign keys or of rows would give another outcome.
+//! The rule by which calls are left out: a call is sent to neither where the model refuses it by a
+//! limit (13, 14, 15), or where another order of foreign keys or of rows would give another outcome.
 
 use crate::differences::hex;
 use crate::engine::{Answer, Engine};
 use crate::inputs::calls;
 use crate::inputs::grounds::{self, Ground};
-use crate::mistakes::actions::having;
 use crate::model::area::Area;
 use crate::model::form;
+use crate::model::keys::having;
 use crate::model::rules::Rules;
 use crate::model::schema::Row;
 use crate::model::Model;
