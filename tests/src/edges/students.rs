@@ -18,6 +18,14 @@ pub fn cases() -> Vec<Case> {
             NO_ACTION,
         ),
         three_children(),
+        gains_the_key(
+            "A row that comes to have the old key before its turn is taken",
+            [&[Some(7), Some(5)], &[Some(8), Some(7)]],
+        ),
+        gains_the_key(
+            "A row that comes to have the old key after its turn is not taken",
+            [&[Some(8), Some(7)], &[Some(7), Some(5)]],
+        ),
         set_default_without_parent(),
         set_null(),
         mended(),
@@ -109,6 +117,30 @@ fn three_children() -> Case {
             Step::ShowRows,
             delete(0, 0),
             Step::ShowRows,
+        ],
+    }
+}
+
+/// The child row (7, 5) goes with its parent 5. Then the row (8, 7), whose parent it is, gets the
+/// default 5: the key that the deletion of 5 is still gone through for.
+fn gains_the_key(title: &'static str, children: [&[Value]; 2]) -> Case {
+    let keys = vec![
+        deferred(child_to_parent(CASCADE, NO_ACTION)),
+        deferred(key((1, &[1]), (1, &[0]), SET_DEFAULT, NO_ACTION)),
+    ];
+    let mut schema = parent_and_child(keys);
+    schema.tables[1].defaults[1] = 5;
+    Case {
+        title,
+        schema,
+        steps: vec![
+            begin(),
+            insert(0, 0, &[Some(5), None]),
+            insert(1, 0, children[0]),
+            insert(1, 1, children[1]),
+            delete(0, 0),
+            Step::ShowRows,
+            Step::ShowOrphans,
         ],
     }
 }

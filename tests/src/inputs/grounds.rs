@@ -158,8 +158,10 @@ fn tangled_table(r: &mut Random, values: &[i64], width: usize) -> Table {
 }
 
 fn tangled_key(r: &mut Random, tables: usize, width: usize) -> Key {
-    let (mut child_columns, mut parent_columns) = ([0, 1, 2], [0, 1]);
-    r.shuffle(&mut child_columns);
+    let (mut child_columns, mut parent_columns) = ([2, 1, 0], [0, 1]);
+    if r.once_in(2) {
+        r.shuffle(&mut child_columns);
+    }
     r.shuffle(&mut parent_columns[..width]);
     Key {
         child: r.between(0, tables - 1) as u8,

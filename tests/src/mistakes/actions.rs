@@ -51,6 +51,9 @@ pub const ALL: &[Mistake] = &[
         rules.turns = having;
         rules.equal = |_, _| true;
     }),
+    ("a row that comes to have the old key not taken", |rules| {
+        rules.turns = having;
+    }),
     ("the first child row only", |rules| {
         rules.turns = |area, key, old| having(area, key, old).into_iter().take(1).collect();
     }),

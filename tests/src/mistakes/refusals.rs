@@ -17,7 +17,9 @@ pub const ALL: &[Mistake] = &[
         set_check(rules, 14, |_, change| change.depth <= 15);
     }),
     ("journal full with none used", |rules| {
-        set_check(rules, 15, |area, _| area.used() > 0);
+        set_check(rules, 15, |area, _| {
+            (1..area.schema.room).contains(&area.used())
+        });
     }),
     ("the journal's last record not used", |rules| {
         set_check(rules, 15, |area, _| area.used() + 1 < area.schema.room);

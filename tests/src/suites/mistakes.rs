@@ -14,7 +14,7 @@ type Part = (&'static str, fn(&dyn Engine, &mut Random) -> bool);
 const PARTS: &[Part] = &[
     ("single operations", |engine, r| {
         let mut operations = Operations::new();
-        (0..2_000).any(|_| operations.trial(engine, r).is_err())
+        (0..40_000).any(|_| operations.trial(engine, r).is_err())
     }),
     ("lists replayed", |engine, r| {
         let mut replay = Replay::new();
