@@ -28,21 +28,22 @@ counted() {
     return 1
 }
 
-# Installs Debian's cargo, rustc and gcc where one of them is missing.
-install_rust() {
+# Installs Debian's cargo, rustc, gcc and libsqlite3-dev where one of them is missing.
+install_packages() {
     local tool missing='' as_root=()
     for tool in cargo rustc gcc; do
         command -v "$tool" >/dev/null || missing="$missing $tool"
     done
+    [ -e /usr/include/sqlite3.h ] || missing="$missing libsqlite3-dev"
     [ -n "$missing" ] || return 0
     echo "test.sh: installing Debian's packages, missing are:$missing"
     [ "$(id -u)" -eq 0 ] || as_root=(sudo)
     "${as_root[@]}" apt-get update && "${as_root[@]}" env DEBIAN_FRONTEND=noninteractive \
-        apt-get install -y --no-install-recommends cargo rustc gcc libc6-dev
+        apt-get install -y --no-install-recommends cargo rustc gcc libc6-dev libsqlite3-dev
 }
 
 command -v rt >/dev/null || stop "rt is not on the PATH: the Rattle kit is needed"
-install_rust || stop "cargo, rustc and gcc are needed, and apt-get could not install them"
+install_packages || stop "cargo, rustc, gcc and libsqlite3-dev are needed, and apt-get could not install them"
 log=$(mktemp) || stop "no temporary file can be made"
 trap 'rm -f "$log"' EXIT
 

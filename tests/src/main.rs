@@ -1,31 +1,24 @@
 //! Tests of the record engine. Each suite reports its tests by name; the last line counts them.
 
-mod breaks;
-mod breaks_header;
-mod breaks_keys;
-mod breaks_parents;
-mod breaks_tables;
+mod differences;
+mod edges;
 mod engine;
-mod harmless;
+mod inputs;
+mod mistakes;
+mod model;
 mod random;
 mod report;
-mod schema_changed;
-mod schema_mistakes;
-mod schema_model;
-mod schema_records;
-mod schema_view;
-mod schemas;
-mod slices;
-mod suite_schema;
+mod schema_bytes;
+mod sqlite;
+mod suites;
+mod trials;
 
+use engine::Built;
 use random::Random;
 use report::Report;
 use std::process::ExitCode;
 
 const DEFAULT_SEED: u64 = 0x686F_6F66;
-
-/// The suites, in the order in which they run.
-const SUITES: &[fn(&mut Random, &mut Report)] = &[suite_schema::run];
 
 /// The number in the environment variable SEED, if it is set.
 fn seed() -> Result<u64, String> {
@@ -37,7 +30,13 @@ fn seed() -> Result<u64, String> {
     }
 }
 
+/// Runs the suites named as arguments, or all. The argument `edge-cases` prints that text instead.
 fn main() -> ExitCode {
+    let names: Vec<String> = std::env::args().skip(1).collect();
+    if names == ["edge-cases"] {
+        print!("{}", edges::text(&Built));
+        return ExitCode::SUCCESS;
+    }
     let seed = match seed() {
         Ok(seed) => seed,
         Err(message) => {
@@ -47,8 +46,10 @@ fn main() -> ExitCode {
     };
     println!("SEED={}", seed);
     let mut report = Report::default();
-    for suite in SUITES {
-        suite(&mut Random::new(seed), &mut report);
+    for (name, suite) in suites::ALL {
+        if names.is_empty() || names.iter().any(|n| n == name) {
+            suite(&mut Random::new(seed), &mut report);
+        }
     }
     report.finish()
 }

@@ -20,6 +20,16 @@ impl Report {
         }
     }
 
+    /// Counts one test: that there were as many of something as there are to be.
+    pub fn at_least(&mut self, name: &str, least: usize, count: usize) {
+        let outcome = if count >= least {
+            Ok(())
+        } else {
+            Err(format!("{}, and not {} or more", count, least))
+        };
+        self.test(name, outcome);
+    }
+
     /// Prints the last line.
     pub fn finish(self) -> ExitCode {
         println!("{} passed, {} failed", self.passed, self.failed);

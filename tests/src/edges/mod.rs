@@ -1,0 +1,115 @@
+//! The edge cases of the paper as a text: each case with its schema and its calls in words, and the
+//! answers of an engine.
+
+mod build;
+mod limits;
+mod paper;
+mod students;
+mod words;
+
+use crate::engine::{Engine, Orphan};
+use crate::inputs::calls::{plain_call, row_call};
+use crate::model::schema::{Schema, Value};
+use crate::schema_bytes::records::Schema as Records;
+use words::{call_words, row_lines, schema_lines};
+
+/// What is done in a case.
+pub enum Step {
+    Call(Vec<i64>),
+    /// Prints the live rows.
+    ShowRows,
+    /// Prints the orphans, by foreign key and row.
+    ShowOrphans,
+}
+
+pub struct Case {
+    title: &'static str,
+    schema: Records,
+    steps: Vec<Step>,
+}
+
+const HEADING: &str = "\
+Each case starts from a fresh area. After a call stands its answer: code,changed,net.
+Code 0 is accepted, any other the number of the refusal; changed is the rows changed;
+net is the change in all kept orphans. c0 is a table's first column.
+";
+
+pub fn all() -> Vec<Case> {
+    [paper::cases(), limits::cases(), students::cases()]
+        .into_iter()
+        .flatten()
+        .collect()
+}
+
+/// The text of all cases, run by an engine.
+pub fn text(engine: &dyn Engine) -> String {
+    let lines: Vec<String> = all().iter().flat_map(|case| run(engine, case)).collect();
+    format!("{}\n{}\n", HEADING, lines.join("\n").trim_end())
+}
+
+/// The lines of one case, with an empty one after them.
+fn run(engine: &dyn Engine, case: &Case) -> Vec<String> {
+    let bytes = case.schema.bytes();
+    let schema = Schema::read(&bytes).expect("the schema of a case is valid");
+    let mut area = vec![0; schema.area_words()];
+    let mut lines = vec![case.title.to_string()];
+    lines.extend(schema_lines(&schema));
+    for step in &case.steps {
+        match step {
+            Step::Call(call) => {
+                let answer = engine.call(&bytes, &mut area, call).to_string();
+                lines.push(format!("  {:<40} {}", call_words(&schema, call), answer));
+            }
+            Step::ShowRows => lines.extend(row_lines(&schema, &area)),
+            Step::ShowOrphans => lines.push(orphan_line(engine, &bytes, &area)),
+        }
+    }
+    lines.push(String::new());
+    lines
+}
+
+fn orphan_line(engine: &dyn Engine, schema: &[u8], area: &[i64]) -> String {
+    let mut list = vec![Orphan::new(0, 0); 100];
+    let listed = engine.list_orphans(schema, area, &mut list);
+    list.truncate(listed.count as usize);
+    list.sort();
+    let named = |o: &Orphan| format!("key {} row {}", o.foreign_key, o.row);
+    let shown: Vec<String> = list.iter().map(named).collect();
+    format!("  orphans: {} [{}]", listed.count, shown.join(", "))
+}
+
+fn insert(table: usize, row: usize, values: &[Value]) -> Step {
+    Step::Call(row_call(1, table, row, values))
+}
+
+fn update(table: usize, row: usize, values: &[Value]) -> Step {
+    Step::Call(row_call(2, table, row, values))
+}
+
+fn delete(table: usize, row: usize) -> Step {
+    Step::Call(row_call(3, table, row, &[]))
+}
+
+fn begin() -> Step {
+    Step::Call(plain_call(4, 0))
+}
+
+fn savepoint() -> Step {
+    Step::Call(plain_call(5, 0))
+}
+
+fn release(level: i64) -> Step {
+    Step::Call(plain_call(6, level))
+}
+
+fn rollback_to(level: i64) -> Step {
+    Step::Call(plain_call(7, level))
+}
+
+fn rollback() -> Step {
+    Step::Call(plain_call(8, 0))
+}
+
+fn commit() -> Step {
+    Step::Call(plain_call(9, 0))
+}

@@ -1,0 +1,135 @@
+//! Areas with random words that refusal 10 lets pass, most of them not reachable by calls.
+
+use super::grounds::Ground;
+use crate::model::area::Area;
+use crate::model::keys::orphan_counts;
+use crate::model::rules::Rules;
+use crate::random::Random;
+
+/// Rows at random, with kept numbers that fit them or not, with levels and a journal or without.
+pub fn filled(r: &mut Random, ground: &Ground) -> Vec<i64> {
+    let mut area = Area {
+        schema: &ground.schema,
+        words: ground.fresh(),
+    };
+    fill_rows(r, ground, &mut area);
+    if !r.once_in(3) {
+        let counts = orphan_counts(&Rules::of_the_paper(), &area);
+        area.kept_mut()[..counts.len()].copy_from_slice(&counts);
+    } else {
+        let numbers = kept_numbers(r, ground);
+        area.kept_mut().copy_from_slice(&numbers);
+    }
+    if r.once_in(2) {
+        open_levels(r, ground, &mut area);
+    }
+    area.words
+}
+
+fn fill_rows(r: &mut Random, ground: &Ground, area: &mut Area) {
+    let full = r.between(1, 4);
+    let mut at = 333;
+    for table in &ground.schema.tables {
+        for _ in 0..table.rows {
+            if !r.once_in(full + 1) {
+                fill_row(r, ground, &mut area.words[at..at + 1 + table.columns]);
+            }
+            at += 1 + table.columns;
+        }
+    }
+}
+
+/// A live row; the masks of some have bits past the columns, or values in NULL columns.
+fn fill_row(r: &mut Random, ground: &Ground, words: &mut [i64]) {
+    let columns = words.len() - 1;
+    let nulls = i64::from(r.byte() & r.byte() & r.byte());
+    let tidy = !r.once_in(8);
+    words[0] = 256
+        + if tidy {
+            nulls & ((1 << columns) - 1)
+        } else {
+            nulls
+        };
+    for (i, word) in words[1..].iter_mut().enumerate() {
+        if nulls >> i & 1 == 0 || !tidy {
+            *word = r.pick(&ground.values);
+        }
+    }
+}
+
+/// 32 kept numbers within their ranges.
+fn kept_numbers(r: &mut Random, ground: &Ground) -> Vec<i64> {
+    let schema = &ground.schema;
+    let mut numbers = vec![0; 32];
+    for (number, key) in numbers.iter_mut().zip(&schema.keys) {
+        if r.once_in(3) {
+            *number = r.edged(0, schema.tables[key.child].rows) as i64;
+        }
+    }
+    numbers
+}
+
+/// Opens levels over a journal of random records.
+fn open_levels(r: &mut Random, ground: &Ground, area: &mut Area) {
+    let open = r.edged(1, 9);
+    let used = r.edged(0, ground.schema.room.min(30));
+    area.words[0] = open as i64;
+    area.words[1] = r.between(1, 2) as i64;
+    area.words[2] = used as i64;
+    let mut use_below = 0;
+    for level in 1..=open {
+        if level > 1 {
+            use_below = r.edged(use_below, used);
+        }
+        let saved = kept_numbers(r, ground);
+        area.level_mut(level)[0] = use_below as i64;
+        area.level_mut(level)[1..].copy_from_slice(&saved);
+    }
+    for record in 0..used {
+        fill_record(r, ground, area, record);
+    }
+}
+
+fn fill_record(r: &mut Random, ground: &Ground, area: &mut Area, record: usize) {
+    let tables = &ground.schema.tables;
+    let rows: usize = tables.iter().map(|t| t.words()).sum();
+    let at = 333 + rows + 10 * record;
+    let table = r.between(0, tables.len() - 1);
+    let row = r.between(0, tables[table].rows - 1);
+    area.words[at] = (table * 1024 + row) as i64;
+    area.words[at + 1] = if r.once_in(2) { 0 } else { state(r) };
+    for word in &mut area.words[at + 2..at + 10] {
+        *word = r.pick(&ground.values);
+    }
+}
+
+/// A state word: live, or one of those beside.
+pub fn state(r: &mut Random) -> i64 {
+    let live = 256 + i64::from(r.byte());
+    let any = r.word() as i64;
+    let others = [0, 1, 255, 256, 511, 512, -1, i64::MIN, i64::MAX, any];
+    if r.once_in(2) {
+        live
+    } else {
+        r.pick(&others)
+    }
+}
+
+/// A chain: row i has key i and refers to row i - 1, the first to none. Rows stand in any order.
+pub fn chained(r: &mut Random, ground: &Ground) -> Vec<i64> {
+    let mut area = Area {
+        schema: &ground.schema,
+        words: ground.fresh(),
+    };
+    let rows = ground.schema.tables[0].rows;
+    let mut places: Vec<usize> = (0..rows).collect();
+    if r.once_in(2) {
+        r.shuffle(&mut places);
+    }
+    let length = r.between(rows - 3, rows);
+    for (i, &place) in places[..length].iter().enumerate() {
+        let above = i.checked_sub(1).map(|above| above as i64);
+        area.put_row(0, place, Some(&vec![Some(i as i64), above]));
+    }
+    area.words
+}

@@ -1,0 +1,108 @@
+//! Well-formed calls at random.
+
+use super::grounds::Ground;
+use crate::model::area::Area;
+use crate::model::schema::{Row, Value};
+use crate::random::Random;
+
+/// The words of an insert (1), update (2) or, without a row, delete (3).
+pub fn row_call(kind: i64, table: usize, row: usize, new: &[Value]) -> Vec<i64> {
+    let mut words = vec![kind, table as i64, row as i64, 0];
+    for (i, value) in new.iter().enumerate() {
+        words[3] |= i64::from(value.is_none()) << i;
+        words.push(value.unwrap_or(0));
+    }
+    words.resize(12, 0);
+    words
+}
+
+/// The words of a call of kinds 4 to 9; the level is 0 where the kind has none.
+pub fn plain_call(kind: i64, level: i64) -> Vec<i64> {
+    let mut words = vec![kind, level];
+    words.resize(12, 0);
+    words
+}
+
+/// A call that mostly suits the area: its length is right, its header can be damaged.
+pub fn any(r: &mut Random, ground: &Ground, area: &[i64]) -> Vec<i64> {
+    let area = Area {
+        schema: &ground.schema,
+        words: area.to_vec(),
+    };
+    if r.once_in(4) {
+        transaction_call(r, area.words[0])
+    } else {
+        change_call(r, ground, &area)
+    }
+}
+
+fn transaction_call(r: &mut Random, open: i64) -> Vec<i64> {
+    let suits_none = [4, 4, 5, 5, 5];
+    let suits_open = [5, 5, 5, 5, 5, 6, 6, 7, 7, 7, 8, 9, 9];
+    let kind = match open {
+        _ if r.once_in(12) => r.between(4, 9) as i64,
+        0 => r.pick(&suits_none),
+        _ => r.pick(&suits_open),
+    };
+    let level = match kind {
+        6 | 7 if r.once_in(8) => r.between(1, 9),
+        6 | 7 => r.edged(1, open.clamp(1, 9) as usize),
+        _ => 0,
+    };
+    plain_call(kind, level as i64)
+}
+
+fn change_call(r: &mut Random, ground: &Ground, area: &Area) -> Vec<i64> {
+    let tables = &ground.schema.tables;
+    let table = r.between(0, tables.len() - 1);
+    let row = r.between(0, tables[table].rows - 1);
+    let old = area.row(table, row);
+    let kind = match old {
+        _ if r.once_in(20) => r.between(1, 3),
+        None => 1,
+        Some(_) => r.pick(&[2, 2, 2, 3, 3]),
+    };
+    match kind {
+        1 => row_call(1, table, row, &new_row(r, ground, area, table)),
+        2 => row_call(2, table, row, &updated(r, ground, area, table, old)),
+        _ => row_call(3, table, row, &[]),
+    }
+}
+
+/// A row whose child keys are often those of a live parent row.
+fn new_row(r: &mut Random, ground: &Ground, area: &Area, table: usize) -> Row {
+    let columns = 0..ground.schema.tables[table].columns;
+    let mut row: Row = columns.map(|c| value(r, ground, table, c)).collect();
+    let keys = ground.schema.keys.iter();
+    for key in keys.filter(|key| key.child == table) {
+        let parents = area.live_rows(key.parent);
+        if parents.is_empty() || r.once_in(4) {
+            continue;
+        }
+        let (_, parent) = &parents[r.between(0, parents.len() - 1)];
+        for (&column, &from) in key.child_columns.iter().zip(&key.parent_columns) {
+            row[column] = parent[from];
+        }
+    }
+    row
+}
+
+/// The old row with some columns changed, or a new one.
+fn updated(r: &mut Random, ground: &Ground, area: &Area, table: usize, old: Option<Row>) -> Row {
+    let mut row = match old {
+        Some(row) if !r.once_in(4) => row,
+        _ => return new_row(r, ground, area, table),
+    };
+    for _ in 0..r.between(0, 2) {
+        let column = r.between(0, row.len() - 1);
+        row[column] = value(r, ground, table, column);
+    }
+    row
+}
+
+/// A value of the column, NULL seldom where that is not let pass.
+fn value(r: &mut Random, ground: &Ground, table: usize, column: usize) -> Value {
+    let not_null = ground.schema.tables[table].not_null.contains(&column);
+    let null = r.once_in(if not_null { 30 } else { 6 });
+    (!null).then(|| r.pick(&ground.values))
+}

@@ -1,0 +1,182 @@
+//! Valid schemas on which calls are tried: small, so that keys collide.
+
+use crate::model::schema::Schema;
+use crate::random::Random;
+use crate::schema_bytes::records::{Key, Schema as Records, Table};
+use crate::schema_bytes::valid::{any_valid, four, key, low_bits, parents};
+
+/// A valid schema as records, as bytes and as the model reads it, and the values that calls give.
+pub struct Ground {
+    pub records: Records,
+    pub bytes: Vec<u8>,
+    pub schema: Schema,
+    pub values: Vec<i64>,
+}
+
+impl Ground {
+    pub fn new(records: Records, values: Vec<i64>) -> Ground {
+        let bytes = records.bytes();
+        let schema = Schema::read(&bytes).expect("the schema is valid");
+        Ground {
+            records,
+            bytes,
+            schema,
+            values,
+        }
+    }
+
+    pub fn fresh(&self) -> Vec<i64> {
+        vec![0; self.schema.area_words()]
+    }
+}
+
+/// A schema on which keys collide.
+pub fn collisions(r: &mut Random) -> Ground {
+    if r.once_in(3) {
+        tangled(r)
+    } else {
+        small(r)
+    }
+}
+
+/// Up to four tables of a few rows, and up to six foreign keys.
+pub fn small(r: &mut Random) -> Ground {
+    let values = domain(r);
+    let count = r.between(1, 4);
+    let mut tables: Vec<Table> = (0..count).map(|_| small_table(r, &values)).collect();
+    if parents(&tables).is_empty() {
+        tables[0].unique[0] = 1;
+    }
+    let parents = parents(&tables);
+    let count = r.between(0, 6).max(r.between(0, 1));
+    let keys = (0..count).map(|_| key(r, &tables, &parents)).collect();
+    let room = r.pick(&[1, 2, 4, 6, 8, 12, 20, 40, 60, 60]);
+    Ground::new(Records::new(room, tables, keys), values)
+}
+
+/// A few small numbers, often with both ends of 64 bits.
+fn domain(r: &mut Random) -> Vec<i64> {
+    let mut values: Vec<i64> = (0..=r.between(1, 4) as i64).collect();
+    if r.once_in(3) {
+        values.extend([i64::MIN, i64::MAX, -1]);
+    }
+    values
+}
+
+fn small_table(r: &mut Random, values: &[i64]) -> Table {
+    let columns = r.pick(&[1, 2, 2, 3, 3, 4, 8]);
+    let mask = low_bits(columns);
+    let mut unique = [0; 4];
+    for slot in unique.iter_mut().take(r.pick(&[0, 1, 1, 1, 2, 3])) {
+        *slot = key_mask(r, columns);
+    }
+    let default_null = r.byte() & mask;
+    let mut defaults = [0; 8];
+    for (i, default) in defaults.iter_mut().enumerate().take(columns) {
+        if default_null >> i & 1 == 0 {
+            *default = r.pick(values);
+        }
+    }
+    Table {
+        rows: r.pick(&[1, 2, 3, 4, 4, 6, 8]),
+        columns: columns as u8,
+        not_null: r.byte() & r.byte() & mask,
+        unique,
+        default_null,
+        zeros: [0; 7],
+        defaults,
+    }
+}
+
+/// One column, or sometimes more of them.
+fn key_mask(r: &mut Random, columns: usize) -> u8 {
+    let one = 1 << r.between(0, columns - 1);
+    if r.once_in(2) {
+        one
+    } else {
+        one | r.byte() & r.byte() & low_bits(columns)
+    }
+}
+
+/// One table whose rows refer to each other, with room for chains of 17 rows and more.
+pub fn chain(r: &mut Random) -> Ground {
+    let rows = r.between(18, 24);
+    let table = Table {
+        rows: rows as u16,
+        columns: 2,
+        not_null: r.pick(&[0, 0, 1]),
+        unique: [1, 0, 0, 0],
+        default_null: 2,
+        zeros: [0; 7],
+        defaults: [0; 8],
+    };
+    let key = Key {
+        child: 0,
+        parent: 0,
+        deferred: r.between(0, 1) as u8,
+        on_delete: r.pick(&[4, 4, 4, 1, 2]),
+        on_update: r.between(0, 4) as u8,
+        count: 1,
+        child_columns: four(&[1]),
+        parent_columns: four(&[0]),
+        zeros: [0; 2],
+    };
+    let keys = vec![key; r.pick(&[1, 1, 1, 2])];
+    let room = r.pick(&[8, 16, 17, 32, 40]);
+    let values = (0..=rows as i64).collect();
+    Ground::new(Records::new(room, vec![table], keys), values)
+}
+
+/// Keys of one width between one or two tables, their columns shared, their actions seldom NO
+/// ACTION: one change often follows from another.
+pub fn tangled(r: &mut Random) -> Ground {
+    let values: Vec<i64> = (0..=r.between(1, 3) as i64).collect();
+    let width = r.between(1, 2);
+    let count = r.between(1, 2);
+    let tables: Vec<Table> = (0..count)
+        .map(|_| tangled_table(r, &values, width))
+        .collect();
+    let keys = (0..r.between(1, 4))
+        .map(|_| tangled_key(r, count, width))
+        .collect();
+    let room = r.pick(&[8, 20, 40, 60]);
+    Ground::new(Records::new(room, tables, keys), values)
+}
+
+fn tangled_table(r: &mut Random, values: &[i64], width: usize) -> Table {
+    let mut defaults = [0; 8];
+    defaults[..3].fill_with(|| r.pick(values));
+    Table {
+        rows: r.pick(&[3, 4, 6]),
+        columns: 3,
+        not_null: 0,
+        unique: [low_bits(width), 0, 0, 0],
+        default_null: 0,
+        zeros: [0; 7],
+        defaults,
+    }
+}
+
+fn tangled_key(r: &mut Random, tables: usize, width: usize) -> Key {
+    let (mut child_columns, mut parent_columns) = ([2, 1, 0], [0, 1]);
+    if r.once_in(2) {
+        r.shuffle(&mut child_columns);
+    }
+    r.shuffle(&mut parent_columns[..width]);
+    Key {
+        child: r.between(0, tables - 1) as u8,
+        parent: r.between(0, tables - 1) as u8,
+        deferred: r.between(0, 1) as u8,
+        on_delete: r.pick(&[0, 1, 2, 3, 3, 4, 4]),
+        on_update: r.pick(&[0, 1, 2, 3, 3, 4, 4]),
+        count: width as u8,
+        child_columns: four(&child_columns[..width]),
+        parent_columns: four(&parent_columns[..width]),
+        zeros: [0; 2],
+    }
+}
+
+/// A valid schema of any size.
+pub fn large(r: &mut Random) -> Ground {
+    Ground::new(any_valid(r), vec![0, 1, 2, i64::MIN, i64::MAX])
+}

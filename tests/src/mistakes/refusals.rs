@@ -1,0 +1,153 @@
+//! Mistakes in the checks: which there are, their limits, their order, and what a refusal leaves.
+
+use super::Mistake;
+use crate::model::area::Area;
+use crate::model::change::{unique, Change};
+use crate::model::damage::most_kept;
+use crate::model::rules::Rules;
+
+pub const ALL: &[Mistake] = &[
+    ("too deep with none used", |rules| {
+        set_check(rules, 14, |_, change| change.depth <= 1);
+    }),
+    ("depth 17 let pass", |rules| {
+        set_check(rules, 14, |_, change| change.depth <= 17);
+    }),
+    ("depth 16 refused", |rules| {
+        set_check(rules, 14, |_, change| change.depth <= 15);
+    }),
+    ("journal full with none used", |rules| {
+        set_check(rules, 15, |area, _| {
+            (1..area.schema.room).contains(&area.used())
+        });
+    }),
+    ("the journal's last record not used", |rules| {
+        set_check(rules, 15, |area, _| area.used() + 1 < area.schema.room);
+    }),
+    ("journal room judged before depth", |rules| {
+        rules.checks.swap(0, 1)
+    }),
+    ("NOT NULL judged before journal room", |rules| {
+        rules.checks.swap(1, 2)
+    }),
+    ("unique judged before NOT NULL", |rules| {
+        rules.checks.swap(2, 3)
+    }),
+    ("unique not judged", |rules| rules.checks.truncate(3)),
+    ("NULL in a unique key equals NULL", |rules| {
+        set_check(rules, 17, |area, change| {
+            unique(area, change, |one, other| one == other)
+        });
+    }),
+    ("20 judged before 19", |rules| rules.ends.swap(0, 1)),
+    ("19 not judged", |rules| {
+        rules.ends.retain(|end| end.0 != 19)
+    }),
+    ("immediate keys wait inside a transaction", |rules| {
+        set_end(rules, |area, key| {
+            area.in_transaction() || area.kept()[key] == 0
+        });
+    }),
+    ("deferred keys wait outside a transaction", |rules| {
+        set_end(rules, |area, key| {
+            area.schema.keys[key].deferred || area.kept()[key] == 0
+        });
+    }),
+    ("a refused statement leaves the journal's words", |rules| {
+        rules.refused = |_| {}
+    }),
+    ("a row keeps its values when it is deleted", |rules| {
+        rules.write = |area, table, row, new| {
+            let old = area.row(table, row);
+            area.journal(table, row);
+            area.put_row(table, row, new.or(old.as_ref()));
+            if new.is_none() {
+                *state_of(area, table, row) = 0;
+            }
+        };
+    }),
+    ("a write that alters no value not counted", |rules| {
+        rules.write = |area, table, row, new| {
+            if area.row(table, row).as_ref() != new {
+                area.journal(table, row);
+                area.put_row(table, row, new);
+            }
+        };
+    }),
+    ("new words in the journal", |rules| {
+        rules.write = |area, table, row, new| {
+            area.put_row(table, row, new);
+            area.journal(table, row);
+        };
+    }),
+    ("mask bits past the columns let pass", |rules| {
+        drop_form(rules, "mask")
+    }),
+    ("values of NULL columns let pass", |rules| {
+        drop_form(rules, "values of NULL")
+    }),
+    ("values past the columns let pass", |rules| {
+        drop_form(rules, "values of no column")
+    }),
+    ("unused words let pass", |rules| {
+        drop_form(rules, "unused words")
+    }),
+    (
+        "a kept number one above the child's rows let pass",
+        |rules| {
+            set_form(rules, "kept numbers", |area| {
+                numbers_let_pass(area, area.kept())
+            });
+        },
+    ),
+    (
+        "a saved number one above the child's rows let pass",
+        |rules| {
+            set_form(rules, "saved numbers", |area| {
+                (1..=area.open()).all(|level| numbers_let_pass(area, &area.level(level)[1..]))
+            });
+        },
+    ),
+    ("header words at odds let pass", |rules| {
+        set_form(rules, "words 0 to 3 in accord", |_| true);
+    }),
+    ("level 1's journal use judged like a later one", |rules| {
+        set_form(rules, "journal use of level 1", |area| {
+            area.open() == 0 || (0..=area.words[2]).contains(&area.level(1)[0])
+        });
+    }),
+];
+
+fn set_check(rules: &mut Rules, code: i64, holds: fn(&Area, &Change) -> bool) {
+    let slot = rules.checks.iter_mut().find(|check| check.0 == code);
+    slot.expect("there is such a check").1 = holds;
+}
+
+/// Replaces the check of refusal 20.
+fn set_end(rules: &mut Rules, holds: fn(&Area, usize) -> bool) {
+    rules.ends[1].1 = holds;
+}
+
+/// Drops one condition of the form of a call.
+fn drop_form(rules: &mut Rules, name: &str) {
+    rules.call_forms.retain(|form| form.0 != name);
+}
+
+/// Replaces one condition of the form of an area.
+fn set_form(rules: &mut Rules, name: &str, holds: fn(&Area) -> bool) {
+    let slot = rules.area_forms.iter_mut().find(|form| form.0 == name);
+    slot.expect("there is such a condition").1 = holds;
+}
+
+/// Whether kept numbers are at most one above their range.
+fn numbers_let_pass(area: &Area, numbers: &[i64]) -> bool {
+    let mut numbers = numbers.iter().enumerate();
+    numbers.all(|(key, number)| (0..=most_kept(area, key) + 1).contains(number))
+}
+
+/// The state word of a row.
+fn state_of<'a>(area: &'a mut Area, table: usize, row: usize) -> &'a mut i64 {
+    let tables = &area.schema.tables;
+    let before: usize = tables[..table].iter().map(|t| t.words()).sum();
+    &mut area.words[333 + before + row * (1 + tables[table].columns)]
+}

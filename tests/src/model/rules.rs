@@ -1,0 +1,94 @@
+//! The sentences of the paper that a mistaken reading can get wrong, each as one entry that can be
+//! replaced. `of_the_paper` gives the paper's own.
+
+use super::area::Area;
+use super::change::{self, Check};
+use super::damage;
+use super::form;
+use super::keys;
+use super::schema::{Action, Key, Row, Schema};
+use super::statement::{self, End};
+use super::transaction;
+
+#[derive(Clone)]
+pub struct Rules {
+    /// Refusal 4: what must hold of the words of a call.
+    pub call_forms: Vec<form::Form>,
+    /// Refusal 10: what must hold of the words of an area.
+    pub area_forms: Vec<damage::Form>,
+    /// The checks of a row change, in order: refusals 14 to 17.
+    pub checks: Vec<Check>,
+    /// The checks at the end of a statement, in order, each for all keys: refusals 19 and 20.
+    pub ends: Vec<End>,
+    /// Whether a child key asks for a parent.
+    pub asks: fn(&Row) -> bool,
+    /// Whether a child key is the parent key.
+    pub equal: fn(&Row, &Row) -> bool,
+    /// Whether actions follow a change of this parent key to that one, or to none by a deletion.
+    pub fires: fn(&Row, Option<&Row>) -> bool,
+    /// The action of a key upon a deletion or an update.
+    pub action: fn(&Key, bool) -> Action,
+    /// The sequence of foreign keys.
+    pub key_sequence: fn(&Schema, Vec<usize>) -> Vec<usize>,
+    /// The child rows that come to their turn: of which key, and the old parent key.
+    pub turns: fn(&Area, &Key, &Row) -> Vec<usize>,
+    /// What an action makes of a child row, given the new parent row.
+    pub image: fn(&Schema, &Key, Action, &Row, Option<&Row>) -> Option<Row>,
+    /// Writes a row change: journal and row.
+    pub write: fn(&mut Area, usize, usize, Option<&Row>),
+    /// By how much the kept numbers move: the area before and after.
+    pub moves: fn(&Rules, &Area, &Area) -> Vec<i64>,
+    /// Rows changed, from the journal use before and after.
+    pub changed: fn(usize, usize) -> i64,
+    /// What a refusal inside a statement leaves in the area at entry.
+    pub refused: fn(&mut Area),
+    /// Opens a level: the word for what opened the transaction.
+    pub open: fn(&mut Area, i64),
+    /// How many levels can be open.
+    pub most_levels: usize,
+    /// Whether a level can be released or rolled back to.
+    pub reachable: fn(&Area, usize) -> bool,
+    /// Whether the kept numbers let a commit pass.
+    pub commits: fn(&Area) -> bool,
+    /// Closes the levels above this one.
+    pub close_above: fn(&mut Area, usize),
+    /// Ends the transaction: its levels are closed already.
+    pub end: fn(&mut Area),
+    /// The sequence in which journal records, given oldest first, are put back.
+    pub undo_sequence: fn(Vec<usize>) -> Vec<usize>,
+    /// Zeroes the records from the one named up to the use before the undoing.
+    pub undone: fn(&mut Area, usize, usize),
+    /// Gives the kept numbers back that a level saved.
+    pub restore: fn(&mut Area, usize),
+}
+
+impl Rules {
+    pub fn of_the_paper() -> Rules {
+        Rules {
+            call_forms: form::FORMS.to_vec(),
+            area_forms: damage::FORMS.to_vec(),
+            checks: change::CHECKS.to_vec(),
+            ends: statement::ENDS.to_vec(),
+            asks: keys::full,
+            equal: keys::equal,
+            fires: change::fires,
+            action: change::action,
+            key_sequence: |_, keys| keys,
+            turns: |area, key, _| (0..area.schema.tables[key.child].rows).collect(),
+            image: change::image,
+            write: change::write,
+            moves: statement::moves,
+            changed: |before, after| (after - before) as i64,
+            refused: |area| area.zero_journal_from(area.used()),
+            open: transaction::open,
+            most_levels: 9,
+            reachable: transaction::reachable,
+            commits: |area| area.kept().iter().all(|&number| number == 0),
+            close_above: transaction::close_above,
+            end: transaction::end,
+            undo_sequence: |records| records.into_iter().rev().collect(),
+            undone: |area, from, used| area.zero_records(from..used),
+            restore: transaction::restore,
+        }
+    }
+}

@@ -1,0 +1,127 @@
+//! A schema as the model keeps it.
+
+use crate::schema_bytes::rules::Rules;
+use crate::schema_bytes::view::{bit, table_at, View};
+
+/// NULL or a number.
+pub type Value = Option<i64>;
+pub type Row = Vec<Value>;
+
+pub struct Table {
+    pub rows: usize,
+    pub columns: usize,
+    pub not_null: Vec<usize>,
+    pub unique: Vec<Vec<usize>>,
+    pub defaults: Row,
+}
+
+#[derive(Clone, Copy, PartialEq)]
+pub enum Action {
+    NoAction,
+    Restrict,
+    SetNull,
+    SetDefault,
+    Cascade,
+}
+
+pub struct Key {
+    pub child: usize,
+    pub parent: usize,
+    pub deferred: bool,
+    pub on_delete: Action,
+    pub on_update: Action,
+    pub child_columns: Vec<usize>,
+    pub parent_columns: Vec<usize>,
+}
+
+pub struct Schema {
+    /// How many records the journal has room for.
+    pub room: usize,
+    pub tables: Vec<Table>,
+    pub keys: Vec<Key>,
+}
+
+impl Schema {
+    /// The schema of the bytes, or refusal 1 or 2.
+    pub fn read(bytes: &[u8]) -> Result<Schema, i64> {
+        match Rules::of_the_paper().code(bytes) {
+            0 => Ok(Schema::of_valid(View(bytes))),
+            code => Err(code),
+        }
+    }
+
+    fn of_valid(s: View) -> Schema {
+        Schema {
+            room: s.half(12),
+            tables: (0..s.tables()).map(|t| table(s, t)).collect(),
+            keys: (0..s.keys()).map(|k| key(s, k)).collect(),
+        }
+    }
+
+    /// How many words an area of this schema has.
+    pub fn area_words(&self) -> usize {
+        let rows: usize = self.tables.iter().map(Table::words).sum();
+        333 + rows + 10 * self.room
+    }
+}
+
+impl Table {
+    /// How many words the rows take.
+    pub fn words(&self) -> usize {
+        self.rows * (1 + self.columns)
+    }
+}
+
+impl Key {
+    pub fn child_key(&self, row: &Row) -> Row {
+        self.child_columns.iter().map(|&c| row[c]).collect()
+    }
+
+    pub fn parent_key(&self, row: &Row) -> Row {
+        self.parent_columns.iter().map(|&c| row[c]).collect()
+    }
+}
+
+/// The columns of a mask.
+pub fn columns_of(mask: usize) -> Vec<usize> {
+    (0..8).filter(|&i| bit(mask, i)).collect()
+}
+
+fn table(s: View, t: usize) -> Table {
+    let masks = s.unique(t).iter().map(|&mask| usize::from(mask));
+    let default = |column: usize| {
+        let at = table_at(t) + 16 + 8 * column;
+        let bytes = s.part(at, 8).try_into().expect("a default has eight bytes");
+        (!bit(s.default_null(t), column)).then(|| i64::from_le_bytes(bytes))
+    };
+    Table {
+        rows: s.half(table_at(t)),
+        columns: s.columns(t),
+        not_null: columns_of(s.not_null(t)),
+        unique: masks.filter(|&mask| mask != 0).map(columns_of).collect(),
+        defaults: (0..s.columns(t)).map(default).collect(),
+    }
+}
+
+fn key(s: View, k: usize) -> Key {
+    let numbers = |columns: &[u8]| columns.iter().map(|&c| usize::from(c)).collect();
+    Key {
+        child: s.child(k),
+        parent: s.parent(k),
+        deferred: s.key_byte(k, 2) == 1,
+        on_delete: action(s.key_byte(k, 3)),
+        on_update: action(s.key_byte(k, 4)),
+        child_columns: numbers(s.child_columns(k).0),
+        parent_columns: numbers(s.parent_columns(k).0),
+    }
+}
+
+fn action(code: usize) -> Action {
+    match code {
+        0 => Action::NoAction,
+        1 => Action::Restrict,
+        2 => Action::SetNull,
+        3 => Action::SetDefault,
+        _ => Action::Cascade,
+    }
+}

@@ -1,0 +1,159 @@
+//! Rules of the paper, each changed by one mistake.
+
+use crate::schema_bytes::rules::{below, distinct, same_columns};
+use crate::schema_bytes::view::{bit, table_at, View};
+
+/// The mistake's name, the name of the rule in whose place it stands, and the changed rule.
+pub type Changed = (&'static str, &'static str, fn(View, usize) -> bool);
+
+pub const CHANGED: &[Changed] = &[
+    ("16 tables refused", "tables", |s, _| {
+        (1..=15).contains(&s.tables())
+    }),
+    ("17 tables let pass", "tables", |s, _| {
+        (1..=17).contains(&s.tables())
+    }),
+    ("32 foreign keys refused", "foreign keys", |s, _| {
+        s.keys() <= 31
+    }),
+    ("33 foreign keys let pass", "foreign keys", |s, _| {
+        s.keys() <= 33
+    }),
+    ("a schema without a key refused", "foreign keys", |s, _| {
+        (1..=32).contains(&s.keys())
+    }),
+    ("journal room 4,096 refused", "journal room", |s, _| {
+        (1..=4095).contains(&s.half(12))
+    }),
+    ("journal room 4,097 let pass", "journal room", |s, _| {
+        (1..=4097).contains(&s.half(12))
+    }),
+    ("1,024 rows refused", "rows", |s, t| {
+        (1..=1023).contains(&s.half(table_at(t)))
+    }),
+    ("1,025 rows let pass", "rows", |s, t| {
+        (1..=1025).contains(&s.half(table_at(t)))
+    }),
+    ("eight columns refused", "columns", |s, t| {
+        (1..=7).contains(&s.columns(t))
+    }),
+    ("nine columns let pass", "columns", |s, t| {
+        (1..=9).contains(&s.columns(t))
+    }),
+    ("bit C of a mask let pass", "NOT NULL mask", |s, t| {
+        (s.columns(t) + 1..8).all(|i| !bit(s.not_null(t), i))
+    }),
+    (
+        "only the first unique mask looked at",
+        "unique masks",
+        |s, t| (s.columns(t)..8).all(|i| !bit(s.unique(t)[0].into(), i)),
+    ),
+    (
+        "a mask in two slots refused",
+        "unique masks in use come first",
+        |s, t| {
+            let used = s.unique(t).iter().take_while(|&&m| m != 0).count();
+            let (used, rest) = s.unique(t).split_at(used);
+            distinct(used) && rest.iter().all(|&m| m == 0)
+        },
+    ),
+    (
+        "only the first zero byte looked at",
+        "zero bytes of a table",
+        |s, t| s.is_zero(table_at(t) + 9, 1),
+    ),
+    (
+        "only half of a default looked at",
+        "defaults of no column",
+        |s, t| (s.columns(t)..8).all(|i| s.is_zero(table_at(t) + 16 + 8 * i, 4)),
+    ),
+    ("CASCADE on update refused", "on-update action", |s, k| {
+        s.key_byte(k, 4) <= 3
+    }),
+    ("action 5 let pass", "on-delete action", |s, k| {
+        s.key_byte(k, 3) <= 5
+    }),
+    ("four columns refused", "column count", |s, k| {
+        (1..=3).contains(&s.count(k))
+    }),
+    (
+        "child columns sought in the parent",
+        "child columns",
+        |s, k| below(s.child_columns(k).0, s.columns(s.parent(k))),
+    ),
+    (
+        "only two child columns compared",
+        "distinct child columns",
+        |s, k| distinct(&s.child_columns(k).0[..s.count(k).min(2)]),
+    ),
+    (
+        "doubled columns of no table let pass",
+        "distinct parent columns",
+        |s, k| s.parent(k) >= s.tables() || distinct(s.parent_columns(k).0),
+    ),
+    (
+        "doubled columns missing let pass",
+        "distinct parent columns",
+        |s, k| !parent_columns_exist(s, k) || distinct(s.parent_columns(k).0),
+    ),
+    (
+        "only the last zero byte looked at",
+        "zero bytes of a key",
+        |s, k| s.key_byte(k, 15) == 0,
+    ),
+    (
+        "count of ones not compared",
+        "unique key of the parent",
+        |s, k| {
+            matches(s, k, |list, mask| {
+                list.iter().all(|&c| bit(mask.into(), c.into()))
+            })
+        },
+    ),
+    (
+        "count of ones alone compared",
+        "unique key of the parent",
+        |s, k| matches(s, k, |list, mask| list.len() == mask.count_ones() as usize),
+    ),
+    (
+        "a smaller unique key let pass",
+        "unique key of the parent",
+        |s, k| {
+            matches(s, k, |list, mask| {
+                mask != 0 && (0..8).all(|i| !bit(mask.into(), i.into()) || list.contains(&i))
+            })
+        },
+    ),
+    (
+        "parent columns only in order",
+        "unique key of the parent",
+        |s, k| {
+            matches(s, k, |list, mask| {
+                same_columns(list, mask) && list.windows(2).all(|w| w[0] < w[1])
+            })
+        },
+    ),
+    (
+        "only three unique keys looked at",
+        "unique key of the parent",
+        |s, k| {
+            let keys = &s.unique(s.parent(k))[..3];
+            keys.iter()
+                .any(|&mask| same_columns(s.parent_columns(k).0, mask))
+        },
+    ),
+    ("a key to its own table refused", "parent table", |s, k| {
+        s.parent(k) < s.tables() && s.parent(k) != s.child(k)
+    }),
+];
+
+fn parent_columns_exist(s: View, k: usize) -> bool {
+    s.parent(k) < s.tables() && below(s.parent_columns(k).0, s.columns(s.parent(k)))
+}
+
+/// Whether a unique key of the parent table, if there is one, passes the test.
+fn matches(s: View, k: usize, test: fn(&[u8], u8) -> bool) -> bool {
+    let list = s.parent_columns(k).0;
+    let mut masks = s.unique(s.parent(k)).iter();
+    s.parent(k) >= s.tables() || parent_columns_exist(s, k) && masks.any(|&mask| test(list, mask))
+}

@@ -1,0 +1,67 @@
+//! Changes of valid schemas that break no rule.
+
+use crate::schema_bytes::breaks::Break;
+use crate::schema_bytes::records::{Key, Schema, Table};
+use crate::schema_bytes::valid::{four, valid};
+
+pub const HARMLESS: &[Break] = &[
+    ("schema S of the paper", 0, |s, _| *s = paper()),
+    ("all counts at their largest", 0, |s, r| {
+        *s = valid(r, 16, 32);
+        s.header.room = 4096;
+        for table in &mut s.tables {
+            table.rows = 1024;
+            table.columns = 8;
+        }
+    }),
+    ("one table and no key", 0, |s, r| *s = valid(r, 1, 0)),
+    ("parent columns in another order", 0, |s, r| {
+        let key = s.any_key(r);
+        let n = key.n();
+        key.parent_columns[..n].reverse();
+    }),
+    ("a mask in two slots", 0, |s, _| {
+        s.keys.truncate(1);
+        s.recount();
+        let mask = s.keys[0].parent_mask();
+        s.tables[usize::from(s.keys[0].parent)].unique = [mask, mask, 0, 0];
+    }),
+    ("the matching mask in the last slot", 0, |s, _| {
+        s.keys.truncate(1);
+        s.recount();
+        let mask = s.keys[0].parent_mask();
+        s.tables[usize::from(s.keys[0].parent)].unique = [1, 1, 1, mask];
+    }),
+    ("a key that refers to its own table", 0, |s, r| {
+        let key = s.any_key(r);
+        key.child = key.parent;
+        key.child_columns = key.parent_columns;
+    }),
+];
+
+/// Schema S.
+pub fn paper() -> Schema {
+    let table = Table {
+        rows: 4,
+        columns: 1,
+        not_null: 1,
+        unique: [1, 0, 0, 0],
+        default_null: 0,
+        zeros: [0; 7],
+        defaults: [0; 8],
+    };
+    let mut child = table.clone();
+    child.columns = 2;
+    let key = Key {
+        child: 1,
+        parent: 0,
+        deferred: 1,
+        on_delete: 4,
+        on_update: 4,
+        count: 1,
+        child_columns: four(&[1]),
+        parent_columns: four(&[0]),
+        zeros: [0; 2],
+    };
+    Schema::new(8, vec![table, child], vec![key])
+}

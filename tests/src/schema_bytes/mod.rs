@@ -1,0 +1,15 @@
+//! Schema bytes: the rules of the paper, valid schemas, and schemas with a rule broken.
+
+pub mod breaks;
+mod breaks_header;
+mod breaks_keys;
+mod breaks_parents;
+mod breaks_tables;
+mod changed;
+pub mod harmless;
+pub mod mistakes;
+pub mod records;
+pub mod rules;
+pub mod slices;
+pub mod valid;
+pub mod view;

@@ -1,0 +1,151 @@
+//! Families of random slices.
+
+use crate::random::Random;
+use crate::schema_bytes::valid::{any_valid, four, valid};
+
+pub struct Family {
+    pub name: &'static str,
+    /// How many slices are made.
+    pub count: usize,
+    /// The code of every slice, where it is known beforehand.
+    pub code: Option<i64>,
+    /// Makes the slice of a number.
+    pub make: fn(&mut Random, usize) -> Vec<u8>,
+}
+
+pub const FAMILIES: &[Family] = &[
+    Family {
+        name: "valid schemas of every size",
+        count: 20 * 16 * 33,
+        code: Some(0),
+        make: |r, i| valid(r, 1 + i % 16, i / 16 % 33).bytes(),
+    },
+    Family {
+        name: "valid schemas with some bytes changed",
+        count: 70_000,
+        code: None,
+        make: |r, _| with_changes(r),
+    },
+    Family {
+        name: "valid schemas cut short",
+        count: 10_000,
+        code: Some(1),
+        make: |r, _| cut_short(r),
+    },
+    Family {
+        name: "valid schemas with bytes after them",
+        count: 10_000,
+        code: Some(1),
+        make: |r, _| with_more(r),
+    },
+    Family {
+        name: "random bytes",
+        count: 301 * 150,
+        code: None,
+        make: |r, i| r.bytes(i % 301),
+    },
+    Family {
+        name: "random headers over random records",
+        count: 40_000,
+        code: None,
+        make: |r, _| random_header(r),
+    },
+    Family {
+        name: "random foreign keys over valid tables",
+        count: 40_000,
+        code: None,
+        make: |r, _| random_keys(r),
+    },
+];
+
+fn with_changes(r: &mut Random) -> Vec<u8> {
+    let mut bytes = any_valid(r).bytes();
+    for _ in 0..r.between(1, 3) {
+        let at = r.between(0, bytes.len() - 1);
+        bytes[at] = match r.between(0, 2) {
+            0 => bytes[at] ^ 1 << r.between(0, 7),
+            1 => r.between(0, 9) as u8,
+            _ => r.byte(),
+        };
+    }
+    bytes
+}
+
+fn cut_short(r: &mut Random) -> Vec<u8> {
+    let mut bytes = any_valid(r).bytes();
+    bytes.truncate(r.edged(0, bytes.len() - 1));
+    bytes
+}
+
+fn with_more(r: &mut Random) -> Vec<u8> {
+    let mut bytes = any_valid(r).bytes();
+    let more = r.edged(1, 100);
+    bytes.extend(r.bytes(more));
+    bytes
+}
+
+/// Each field of the header is right or random; the records are valid or random.
+fn random_header(r: &mut Random) -> Vec<u8> {
+    let mut schema = any_valid(r);
+    let header = &mut schema.header;
+    let fields = [
+        &mut header.tables,
+        &mut header.keys,
+        &mut header.tables_at,
+        &mut header.keys_at,
+        &mut header.room,
+        &mut header.length,
+    ];
+    for field in fields {
+        if r.once_in(12) {
+            *field = r.pick(&[0, 1, 16, 17, 32, 33, 4096, 4097, 65535]);
+        } else if r.once_in(12) {
+            *field = r.word() as u16;
+        }
+    }
+    let mut bytes = schema.bytes();
+    if r.once_in(2) {
+        let records = r.bytes(bytes.len() - 16);
+        bytes[16..].copy_from_slice(&records);
+    }
+    bytes
+}
+
+/// The columns and tables of the keys are random, and other fields now and then.
+fn random_keys(r: &mut Random) -> Vec<u8> {
+    let (tables, keys) = (r.between(1, 3), r.between(1, 2));
+    let mut schema = valid(r, tables, keys);
+    for key in &mut schema.keys {
+        let count = r.edged(1, 4);
+        key.count = count as u8;
+        key.child_columns = random_columns(r, count);
+        key.parent_columns = random_columns(r, count);
+        key.child = near(r, key.child, tables);
+        key.parent = near(r, key.parent, tables);
+        key.deferred = near(r, key.deferred, 2);
+        key.on_delete = near(r, key.on_delete, 5);
+        key.on_update = near(r, key.on_update, 5);
+        key.zeros[0] = near(r, 0, 1);
+    }
+    schema.bytes()
+}
+
+fn random_columns(r: &mut Random, count: usize) -> [u8; 4] {
+    let bound = r.between(count, 8) as u8;
+    let mut columns: Vec<u8> = (0..bound).collect();
+    r.shuffle(&mut columns);
+    let mut columns = four(&columns[..count]);
+    if r.once_in(8) {
+        columns[r.between(0, 3)] = r.pick(&[0, 1, 7, 8, 255]);
+    }
+    columns
+}
+
+/// The number itself, or now and then one from 0 to `bound`.
+fn near(r: &mut Random, number: u8, bound: usize) -> u8 {
+    if r.once_in(10) {
+        r.edged(0, bound) as u8
+    } else {
+        number
+    }
+}

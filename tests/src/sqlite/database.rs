@@ -1,0 +1,103 @@
+//! The book kept by SQLite: it takes the same calls.
+
+pub use super::binding::version;
+use super::binding::{Connection, Statement};
+use super::statements;
+use crate::model::form::Call;
+use crate::model::schema::{Row, Schema, Value};
+
+/// The statements of one table.
+struct Table {
+    insert: Statement,
+    update: Statement,
+    delete: Statement,
+    select: Statement,
+    columns: usize,
+}
+
+pub struct Database {
+    tables: Vec<Table>,
+    /// How many levels are open.
+    open: usize,
+    connection: Connection,
+}
+
+impl Database {
+    /// An empty book.
+    pub fn new(schema: &Schema) -> Database {
+        let connection = Connection::in_memory();
+        connection.execute("PRAGMA foreign_keys=ON");
+        let numbers = 0..schema.tables.len();
+        for number in numbers.clone() {
+            connection.execute(&statements::create_table(schema, number));
+        }
+        let table = |number: usize| {
+            let columns = schema.tables[number].columns;
+            Table {
+                insert: connection.prepare(&statements::insert(number, columns)),
+                update: connection.prepare(&statements::update(number, columns)),
+                delete: connection.prepare(&statements::delete(number)),
+                select: connection.prepare(&statements::select(number)),
+                columns,
+            }
+        };
+        Database {
+            tables: numbers.map(table).collect(),
+            open: 0,
+            connection,
+        }
+    }
+
+    /// Whether SQLite accepts the call. An update or a deletion of no row, which it lets pass, is
+    /// refused here.
+    pub fn call(&mut self, call: &Call) -> bool {
+        match call {
+            Call::Insert(table, row, new) => self.change(|t| &t.insert, *table, *row, new),
+            Call::Update(table, row, new) => self.change(|t| &t.update, *table, *row, new),
+            Call::Delete(table, row) => self.change(|t| &t.delete, *table, *row, &[]),
+            Call::Begin => self.level("BEGIN".into(), 1),
+            Call::Savepoint => self.level(format!("SAVEPOINT l{}", self.open + 1), self.open + 1),
+            Call::Release(level) => self.level(format!("RELEASE l{}", level), level - 1),
+            Call::RollbackTo(level) => self.level(format!("ROLLBACK TO l{}", level), *level),
+            Call::Rollback => self.level("ROLLBACK".into(), 0),
+            Call::Commit => self.level("COMMIT".into(), 0),
+        }
+    }
+
+    fn change(
+        &self,
+        which: fn(&Table) -> &Statement,
+        table: usize,
+        row: usize,
+        new: &[Value],
+    ) -> bool {
+        let statement = which(&self.tables[table]);
+        let mut values = vec![Some(row as i64)];
+        values.extend(new);
+        statement.bind(&values);
+        statement.run() && self.connection.changes() == 1
+    }
+
+    /// Runs a statement after which this many levels are open.
+    fn level(&mut self, sql: String, open: usize) -> bool {
+        let accepted = self.connection.prepare(&sql).run();
+        if accepted {
+            self.open = open;
+        }
+        accepted
+    }
+
+    /// The rows of a table with their numbers, rising.
+    pub fn rows(&self, table: usize) -> Vec<(usize, Row)> {
+        let table = &self.tables[table];
+        let rows = table
+            .select
+            .rows(table.columns + 1)
+            .expect("rows can be read");
+        let split = |row: Vec<Value>| {
+            let number = row[0].expect("a row has a number");
+            (number as usize, row[1..].to_vec())
+        };
+        rows.into_iter().map(split).collect()
+    }
+}

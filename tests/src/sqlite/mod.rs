@@ -1,0 +1,5 @@
+//! Stock SQLite as another reading of the rules of foreign keys.
+
+mod binding;
+pub mod database;
+mod statements;

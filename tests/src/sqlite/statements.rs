@@ -1,0 +1,80 @@
+//! SQL text of a schema.
+
+use crate::model::schema::{Action, Key, Schema, Table};
+
+/// A table with the row number `r` and columns `c0` onwards. SQLite runs the foreign keys declared
+/// last first, so they are declared from the last to the first.
+pub fn create_table(schema: &Schema, number: usize) -> String {
+    let table = &schema.tables[number];
+    let mut parts = vec!["r INTEGER PRIMARY KEY".to_string()];
+    parts.extend((0..table.columns).map(|c| column(table, c)));
+    parts.extend(
+        table
+            .unique
+            .iter()
+            .map(|key| format!("UNIQUE({})", names(key))),
+    );
+    let keys = schema.keys.iter().rev();
+    parts.extend(keys.filter(|key| key.child == number).map(foreign_key));
+    format!("CREATE TABLE t{}({})", number, parts.join(", "))
+}
+
+fn column(table: &Table, column: usize) -> String {
+    let not_null = table.not_null.contains(&column);
+    let default = table.defaults[column].map_or("NULL".into(), |value| format!("({})", value));
+    let constraint = if not_null { " NOT NULL" } else { "" };
+    format!("c{} INTEGER{} DEFAULT {}", column, constraint, default)
+}
+
+fn foreign_key(key: &Key) -> String {
+    format!(
+        "FOREIGN KEY({}) REFERENCES t{}({}) ON DELETE {} ON UPDATE {}{}",
+        names(&key.child_columns),
+        key.parent,
+        names(&key.parent_columns),
+        action(key.on_delete),
+        action(key.on_update),
+        if key.deferred {
+            " DEFERRABLE INITIALLY DEFERRED"
+        } else {
+            ""
+        }
+    )
+}
+
+fn names(columns: &[usize]) -> String {
+    let names: Vec<String> = columns.iter().map(|c| format!("c{}", c)).collect();
+    names.join(",")
+}
+
+fn action(action: Action) -> &'static str {
+    match action {
+        Action::NoAction => "NO ACTION",
+        Action::Restrict => "RESTRICT",
+        Action::SetNull => "SET NULL",
+        Action::SetDefault => "SET DEFAULT",
+        Action::Cascade => "CASCADE",
+    }
+}
+
+/// An insert of the row number and the columns. INSERT .. VALUES of one row that an immediate key
+/// refuses can leave SQLite's count of deferred violations raised; INSERT .. SELECT does not.
+pub fn insert(number: usize, columns: usize) -> String {
+    let values: Vec<String> = (1..=columns + 1).map(|n| format!("?{}", n)).collect();
+    format!("INSERT INTO t{} SELECT {}", number, values.join(","))
+}
+
+/// An update of every column; the row number is the first parameter.
+pub fn update(number: usize, columns: usize) -> String {
+    let set: Vec<String> = (0..columns).map(|c| format!("c{}=?{}", c, c + 2)).collect();
+    format!("UPDATE t{} SET {} WHERE r=?1", number, set.join(","))
+}
+
+pub fn delete(number: usize) -> String {
+    format!("DELETE FROM t{} WHERE r=?1", number)
+}
+
+/// All rows, by number.
+pub fn select(number: usize) -> String {
+    format!("SELECT * FROM t{} ORDER BY r", number)
+}

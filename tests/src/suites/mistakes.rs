@@ -1,0 +1,49 @@
+//! The tests can fail: each mistaken engine is caught by a part of them.
+
+use crate::engine::Engine;
+use crate::mistakes;
+use crate::random::Random;
+use crate::report::Report;
+use crate::trials::operations::Operations;
+use crate::trials::replay::Replay;
+use crate::trials::sqlite::Alike;
+
+/// A part's name, and whether it catches an engine.
+type Part = (&'static str, fn(&dyn Engine, &mut Random) -> bool);
+
+const PARTS: &[Part] = &[
+    ("single operations", |engine, r| {
+        let mut operations = Operations::new();
+        (0..40_000).any(|_| operations.trial(engine, r).is_err())
+    }),
+    ("lists replayed", |engine, r| {
+        let mut replay = Replay::new();
+        (0..100).any(|_| replay.trial(engine, r).is_err())
+    }),
+    ("SQLite", |engine, r| {
+        let mut alike = Alike::new();
+        (0..60).any(|_| alike.trial(engine, r).is_err())
+    }),
+];
+
+pub fn run(r: &mut Random, report: &mut Report) {
+    let engines = mistakes::all();
+    let mut caught_all = 0;
+    for (name, engine) in &engines {
+        let parts = PARTS.iter().filter(|part| (part.1)(engine.as_ref(), r));
+        let caught: Vec<&str> = parts.map(|part| part.0).collect();
+        let outcome = if caught.is_empty() {
+            Err("no part of the tests tells it from the paper".into())
+        } else {
+            caught_all += 1;
+            println!("caught: {} ({})", name, caught.join(", "));
+            Ok(())
+        };
+        report.test(&format!("mistake: {}", name), outcome);
+    }
+    println!(
+        "{} of {} mistaken engines caught",
+        caught_all,
+        engines.len()
+    );
+}

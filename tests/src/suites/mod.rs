@@ -1,0 +1,25 @@
+//! The suites: each runs its tests on the built engine or program and reports them by name.
+
+mod edges;
+mod mistakes;
+mod operations;
+mod program;
+mod replay;
+mod schema;
+mod sqlite;
+
+use crate::random::Random;
+use crate::report::Report;
+
+pub type Suite = fn(&mut Random, &mut Report);
+
+/// The suites with their names, in the order in which they run.
+pub const ALL: &[(&str, Suite)] = &[
+    ("schema", schema::run),
+    ("operations", operations::run),
+    ("replay", replay::run),
+    ("edges", edges::run),
+    ("sqlite", sqlite::run),
+    ("program", program::run),
+    ("mistakes", mistakes::run),
+];

@@ -1,0 +1,86 @@
+//! The built program on stored inputs against stored outputs, and on random ones against the model.
+
+use crate::differences::hex;
+use crate::model::program::text;
+use crate::model::Model;
+use crate::random::Random;
+use crate::report::Report;
+use crate::trials::program::{bytes_of, output, random_input, test_file};
+use std::fs;
+
+type Outcome = Result<(), String>;
+
+/// The stored inputs: each has an output beside it.
+const STORED: &[&str] = &[
+    "empty",
+    "fifteen_bytes",
+    "paper",
+    "short_last_call",
+    "no_unique_key",
+    "words_8192",
+    "words_8193",
+];
+
+const RANDOM_INPUTS: usize = 1_500;
+
+pub fn run(r: &mut Random, report: &mut Report) {
+    for name in STORED {
+        report.test(&format!("hoofrun: {}", name), stored(name));
+    }
+    report.test("hoofrun: the paper's calls cut at each byte", cut());
+    let mut outcome = Ok(());
+    let mut inputs = 0;
+    while outcome.is_ok() && inputs < RANDOM_INPUTS {
+        outcome = against_model(&random_input(r));
+        inputs += 1;
+    }
+    println!(
+        "{} random inputs of hoofrun compared with the model",
+        inputs
+    );
+    report.test("hoofrun: random inputs", outcome);
+}
+
+fn read(name: &str) -> Result<String, String> {
+    let file = test_file("hoofrun").join(name);
+    fs::read_to_string(&file).map_err(|why| format!("{}: {}", file.display(), why))
+}
+
+/// The program and the model print the stored output.
+fn stored(name: &str) -> Outcome {
+    let input = bytes_of(&read(&format!("{}.hex", name))?);
+    let expected = read(&format!("{}.txt", name))?;
+    against_model(&input)?;
+    same(&output(&input)?, &expected)
+}
+
+/// The outputs for all lengths, equal ones told once, are the stored text.
+fn cut() -> Outcome {
+    let input = bytes_of(&read("paper.hex")?);
+    let mut groups: Vec<(usize, usize, String)> = Vec::new();
+    for length in 0..=input.len() {
+        let printed = output(&input[..length])?;
+        match groups.last_mut() {
+            Some(last) if last.2 == printed => last.1 = length,
+            _ => groups.push((length, length, printed)),
+        }
+    }
+    let told = |(from, to, printed): &(usize, usize, String)| {
+        format!("cut to {} to {} bytes:\n{}\n", from, to, printed)
+    };
+    let all: String = groups.iter().map(told).collect();
+    same(all.trim_end(), read("paper_cut.txt")?.trim_end())
+}
+
+fn against_model(input: &[u8]) -> Outcome {
+    let (found, expected) = (output(input)?, text(&Model::of_the_paper(), input));
+    same(&found, &expected).map_err(|why| format!("{}; input {}", why, hex(input)))
+}
+
+fn same(found: &str, expected: &str) -> Outcome {
+    if found == expected {
+        Ok(())
+    } else {
+        Err(format!("printed {:?}, expected {:?}", found, expected))
+    }
+}

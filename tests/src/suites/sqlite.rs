@@ -1,0 +1,30 @@
+//! The built engine against stock SQLite.
+
+use crate::engine::Built;
+use crate::random::Random;
+use crate::report::Report;
+use crate::sqlite::database::version;
+use crate::trials::sqlite::Alike;
+
+/// How many calls there are to be, and how many that are accepted.
+const LEAST_CALLS: usize = 60_000;
+const LEAST_ACCEPTED: usize = 20_000;
+
+pub fn run(r: &mut Random, report: &mut Report) {
+    let mut alike = Alike::new();
+    let mut outcome = Ok(());
+    while outcome.is_ok() && alike.calls < LEAST_CALLS {
+        outcome = alike.trial(&Built, r);
+    }
+    println!(
+        "{} calls compared with SQLite {}: {} accepted; left out: {} by order, {} by limits",
+        alike.calls,
+        version(),
+        alike.accepted,
+        alike.by_order,
+        alike.by_limit
+    );
+    report.test("calls compared with SQLite", outcome);
+    report.at_least("calls sent to SQLite", LEAST_CALLS, alike.calls);
+    report.at_least("calls that SQLite accepts", LEAST_ACCEPTED, alike.accepted);
+}

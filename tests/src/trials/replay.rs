@@ -1,0 +1,171 @@
+//! Demand 3 on an engine: a list of calls, and what striking out leaves of it, end alike.
+
+use crate::differences::{first_words, hex};
+use crate::engine::{Answer, Engine};
+use crate::inputs::calls::{self, plain_call};
+use crate::inputs::grounds::{self, Ground};
+use crate::inputs::malformed;
+use crate::model::area::Area;
+use crate::model::keys::orphan_counts;
+use crate::model::{strike, Model};
+use crate::random::Random;
+
+type Outcome = Result<(), String>;
+
+pub struct Replay {
+    model: Model,
+    pub lists: usize,
+    pub calls: usize,
+    /// How many calls were left by striking out.
+    pub left: usize,
+    /// How many lists ended inside a transaction.
+    pub open: usize,
+}
+
+/// A list of calls and the answers to it.
+struct Run {
+    calls: Vec<Vec<i64>>,
+    codes: Vec<i64>,
+    answers: Vec<Answer>,
+    area: Vec<i64>,
+}
+
+impl Replay {
+    pub fn new() -> Replay {
+        Replay {
+            model: Model::of_the_paper(),
+            lists: 0,
+            calls: 0,
+            left: 0,
+            open: 0,
+        }
+    }
+
+    /// One list of 20 to 200 calls from a fresh area.
+    pub fn trial(&mut self, engine: &dyn Engine, r: &mut Random) -> Outcome {
+        let ground = if r.once_in(10) {
+            grounds::chain(r)
+        } else {
+            grounds::collisions(r)
+        };
+        let run = self.first_run(engine, r, &ground)?;
+        let left = strike::left(&run.calls, &run.codes);
+        self.lists += 1;
+        self.calls += run.calls.len();
+        self.left += left.len();
+        self.open += usize::from(run.area[0] != 0);
+        second_run(engine, &ground, &run, &left)
+    }
+
+    /// Runs a random list. The codes are those of the model, which runs beside; after each call the
+    /// kept numbers and the commit sent next are held to the orphans counted.
+    fn first_run(
+        &self,
+        engine: &dyn Engine,
+        r: &mut Random,
+        ground: &Ground,
+    ) -> Result<Run, String> {
+        let (mut area, mut beside) = (made_fresh(engine, ground)?, ground.fresh());
+        let (mut calls, mut codes, mut answers) = (Vec::new(), Vec::new(), Vec::new());
+        for _ in 0..r.between(20, 200) {
+            let mut call = calls::any(r, ground, &beside);
+            if r.once_in(25) {
+                call = malformed::spoiled(r, ground, call);
+            }
+            answers.push(engine.call(&ground.bytes, &mut area, &call));
+            codes.push(self.model.call(&ground.bytes, &mut beside, &call).code);
+            calls.push(call);
+            self.counted(engine, ground, &area)
+                .map_err(|why| told(ground, &calls, &why))?;
+        }
+        let mut pairs = answers.iter().zip(&codes);
+        if let Some(at) = pairs.position(|(answer, &code)| answer.code != code) {
+            let why = format!("call {}: answer {}, code {}", at, answers[at], codes[at]);
+            return Err(told(ground, &calls, &why));
+        }
+        Ok(Run {
+            calls,
+            codes,
+            answers,
+            area,
+        })
+    }
+
+    /// Kept numbers are those counted from the rows; a commit sent next passes only if all are 0.
+    fn counted(&self, engine: &dyn Engine, ground: &Ground, words: &[i64]) -> Outcome {
+        let area = Area {
+            schema: &ground.schema,
+            words: words.to_vec(),
+        };
+        let mut counts = orphan_counts(&self.model.rules, &area);
+        counts.resize(32, 0);
+        if area.kept() != counts {
+            return Err(format!("kept {:?}, counted {:?}", area.kept(), counts));
+        }
+        let code = match (area.in_transaction(), counts.iter().all(|&n| n == 0)) {
+            (false, _) => 12,
+            (true, false) => 21,
+            (true, true) => 0,
+        };
+        commit_next(engine, ground, words, plain_call(9, 0), code)?;
+        if words[1] == 2 {
+            commit_next(engine, ground, words, plain_call(6, 1), code)?;
+        }
+        Ok(())
+    }
+}
+
+/// Sends a commit on a copy of the area. Accepted, it leaves no transaction; refused, it writes
+/// nothing.
+fn commit_next(
+    engine: &dyn Engine,
+    ground: &Ground,
+    words: &[i64],
+    commit: Vec<i64>,
+    code: i64,
+) -> Outcome {
+    let mut after = words.to_vec();
+    let answer = engine.call(&ground.bytes, &mut after, &commit);
+    let ended = if code == 0 {
+        after[..3] == [0, 0, 0]
+    } else {
+        after == words
+    };
+    if answer != Answer::refused(code) || !ended {
+        return Err(format!(
+            "commit sent next: answer {}, code {}",
+            answer, code
+        ));
+    }
+    Ok(())
+}
+
+fn made_fresh(engine: &dyn Engine, ground: &Ground) -> Result<Vec<i64>, String> {
+    let mut area = vec![7; ground.schema.area_words()];
+    match engine.make_fresh(&ground.bytes, &mut area) {
+        0 => Ok(area),
+        code => Err(format!("making fresh is refused by {}", code)),
+    }
+}
+
+/// Runs the calls that are left from another fresh area: the same answers, and every word.
+fn second_run(engine: &dyn Engine, ground: &Ground, run: &Run, left: &[usize]) -> Outcome {
+    let mut area = made_fresh(engine, ground)?;
+    for &number in left {
+        let answer = engine.call(&ground.bytes, &mut area, &run.calls[number]);
+        if answer != run.answers[number] {
+            let why = format!("call {}: {}, then {}", number, run.answers[number], answer);
+            return Err(told(ground, &run.calls, &why));
+        }
+    }
+    if area != run.area {
+        let words = first_words(&area, &run.area);
+        let why = format!("second run, with the first as model: {}", words);
+        return Err(told(ground, &run.calls, &why));
+    }
+    Ok(())
+}
+
+fn told(ground: &Ground, calls: &[Vec<i64>], why: &str) -> String {
+    format!("{}; schema {}; calls {:?}", why, hex(&ground.bytes), calls)
+}
