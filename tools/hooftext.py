@@ -39,7 +39,7 @@ def text_in(path):
     """The text of a file; bytes that are no UTF-8 are a mistake on their line."""
     data = read_file(path)
     try:
-        return data.decode("utf-8")
+        return data.decode("utf-8-sig")
     except UnicodeDecodeError as error:
         line = data[: error.start].count(b"\n") + 1
         raise Mistake(line, f"expected text, found the byte {data[error.start]:02X}") from error

@@ -189,10 +189,14 @@ def check_commands(checks):
             checks.check(f"{arguments[0]} of a mistake", (status, out) == (1, b"") and told, err)
         checks.check("nothing written", not os.path.exists(os.path.join(folder, "c.bin")))
     checks.check("streams", tool("encode", "-", "-", data=TABLES.encode())[1][:4] == b"FKB1")
-    checks.check("no text", tool("encode", "-", "-", data=b"\n\xff")[2] == "-:2: expected text, found the byte FF\n")
+    checks.check("byte order mark", tool("encode", "-", "-", data=b"\xef\xbb\xbfbytes 01")[1] == b"\x01")
+    told = tool("encode", "-", "-", data=b"\n\xff")[2]
+    checks.check("no text", told == "-:2: expected text, found the byte FF\n", told)
     checks.check("no such file", tool("run", "/nowhere/a.txt")[0] == 1)
     status, out, err = tool("run", "-", data=TABLES.encode(), HOOFRUN="/nowhere/hoofrun")
     checks.check("no hoofrun", (status, out) == (1, b"") and "cannot run hoofrun" in err, err)
+    status, out, err = tool("run", "-", data=TABLES.encode(), HOOFRUN="/bin/true")
+    checks.check("another program", (status, out) == (1, b"") and "does not print" in err, err)
     for arguments in ((), ("help",), ("encode", "a"), ("decode", "a", "b", "c"), ("run",)):
         status, out, err = tool(*arguments)
         used = (status, out) == (2, b"") and err.startswith("usage: hooftext.py encode TEXT BYTES")

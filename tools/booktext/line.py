@@ -4,6 +4,7 @@ import re
 
 WORD = re.compile(r"->|-?[0-9]+|[A-Za-z_][A-Za-z0-9_]*|[(),.=]")
 BLANKS = re.compile(r"\s*")
+LONGEST_NUMBER = 20  # characters of the least 64-bit number
 
 
 class Mistake(Exception):
@@ -75,7 +76,7 @@ class Line:
         word = self.peek()
         if not word or not word[-1].isdigit() or word[0].isalpha() or word[0] == "_":
             self.expected(what)
-        if not least <= int(word) <= most:
+        if len(word) > LONGEST_NUMBER or not least <= int(word) <= most:
             self.fail(f"expected {what} from {least} to {most}, found {word}")
         self.next += 1
         return int(word)

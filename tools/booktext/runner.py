@@ -1,13 +1,18 @@
 """Runs hoofrun on a text and lays its answers beside the calls."""
 
 import os
+import re
 import subprocess
 from pathlib import Path
 
 from .reader import read_text
 
 BUILT = Path(__file__).resolve().parents[2] / "target" / "bin" / "hoofrun"
-HEADING = "code,changed,net"
+OUTPUT = re.compile(
+    r"code,changed,net\n"
+    r"(?P<answers>([0-9]+,[0-9]+,-?[0-9]+\n)*)"
+    r"(?P<tally>accepted,[0-9]+,refused,[0-9]+,rows,[0-9]+)\n"
+)
 
 REFUSALS = {
     1: "schema malformed",
@@ -46,10 +51,11 @@ def run_hoofrun(data):
         done = subprocess.run([path], input=data, capture_output=True, check=True)
     except (OSError, subprocess.CalledProcessError) as error:
         raise HoofrunError(f"cannot run hoofrun: {error}; set HOOFRUN to its path") from error
-    heading, *answers, tally = done.stdout.decode("ascii").splitlines() or ["", ""]
-    if heading != HEADING or not tally.startswith("accepted,"):
+    printed = OUTPUT.fullmatch(done.stdout.decode("ascii", "replace"))
+    if not printed:
         raise HoofrunError(f"{path} does not print the lines of hoofrun")
-    return [tuple(map(int, answer.split(","))) for answer in answers], tally
+    answers = [tuple(map(int, answer.split(","))) for answer in printed["answers"].splitlines()]
+    return answers, printed["tally"]
 
 
 def answer_text(answer):
@@ -76,6 +82,8 @@ def laid_out(text, book, answers):
     if answers and answers[0][0] in SCHEMA_REFUSALS:
         below_schema.append(f"{'the schema':{width}}" + answer_text(answers[0]))
         answered = []
+    elif len(answers) != len(answered):
+        raise HoofrunError(f"hoofrun gave {len(answers)} answers to {len(answered)} calls")
     for number, answer in zip(answered, answers):
         lines[number - 1] = f"{lines[number - 1]:{width}}" + answer_text(answer)
     schema_end = book.schema_line if book.schema else len(lines)

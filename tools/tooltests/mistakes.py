@@ -18,6 +18,7 @@ SCHEMA_MISTAKES = [
     ("table horses rows many\n", 1, "expected the number of rows, found 'many'"),
     ("table horses rows 65536\n", 1, "from 0 to 65535, found 65536"),
     ("table horses rows -1\n", 1, "from 0 to 65535, found -1"),
+    ("table horses rows " + "9" * 5000 + "\n", 1, "from 0 to 65535"),
     ("table horses rows 4 5\n", 1, "expected the end of the line, found '5'"),
     ("table horses rows 4\ntable horses rows 5\n", 2, "there is a table horses already"),
     ("column number\n", 1, "expected a table line above"),
