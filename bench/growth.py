@@ -1,0 +1,68 @@
+"""How the cost of one statement grows with the rows of its tables."""
+
+from inputs import BEGIN, DELETE, INSERT, ROLLBACK, UPDATE, Calls
+from loads import trims_text
+
+ROWS = (32, 128, 512, 1024)
+BATCH = 8  # statements of a transaction, which is rolled back
+LEAST_SECONDS = 0.03  # what the statements of one measurement take at least, if they are not too many
+MOST_BATCHES = 6400
+HORSES, TRIMS = 0, 1
+
+# Each statement on row r. The last horses have no trims, so that no action changes a second row.
+STATEMENTS = {
+    "insert trim": (INSERT, TRIMS, lambda r: [r, 0]),
+    "update trim": (UPDATE, TRIMS, lambda r: [r, 1]),
+    "delete trim": (DELETE, TRIMS, lambda r: []),
+    "insert horse": (INSERT, HORSES, lambda r: [r]),
+    "update horse": (UPDATE, HORSES, lambda r: [r + 5000]),
+    "delete horse": (DELETE, HORSES, lambda r: []),
+}
+
+
+def filled(rows):
+    """Tables with all but the last BATCH rows live; the trims belong to the first half of the horses."""
+    calls = Calls(trims_text(rows, rows, BATCH))
+    live = rows - BATCH
+    for row in range(live):
+        calls.add(INSERT, HORSES, row, [row])
+    for row in range(live):
+        calls.add(INSERT, TRIMS, row, [row, row % (live // 2)])
+    return calls
+
+
+def batches(rows, statement, count):
+    """So many transactions that are rolled back; without a statement they are empty."""
+    calls = filled(rows)
+    for _ in range(count):
+        calls.add(BEGIN)
+        for i in range(BATCH if statement else 0):
+            kind, table, values = STATEMENTS[statement]
+            row = rows - 1 - i if kind == INSERT else rows - BATCH - 1 - i
+            calls.add(kind, table, row, values(row))
+        calls.add(ROLLBACK)
+    return calls.to_bytes()
+
+
+def seconds(sides, rows, statement, count, runs):
+    """What the statements of so many batches take, with their undo, on each side."""
+    whole = sides.best(batches(rows, statement, count), runs)
+    empty = sides.best(batches(rows, None, count), runs)
+    return [a - b for a, b in zip(whole, empty)]
+
+
+def cost(sides, rows, statement):
+    """Nanoseconds of one statement with its undo, on each side."""
+    count = 25
+    while count < MOST_BATCHES and min(seconds(sides, rows, statement, count, 1)) < LEAST_SECONDS:
+        count *= 4
+    return [spent / (count * BATCH) * 1e9 for spent in seconds(sides, rows, statement, count, 3)]
+
+
+def print_growth(sides):
+    """Two lines for each statement, hoofrun's and SQLite's cost at each number of rows."""
+    print(f"{'nanoseconds a statement':32}" + "".join(f"{f'R = {rows:,}':>12}" for rows in ROWS))
+    for statement in STATEMENTS:
+        costs = zip(*[cost(sides, rows, statement) for rows in ROWS])
+        for side, line in zip(("hoofrun", "SQLite"), costs):
+            print(f"{statement:20}{side:12}" + "".join(f"{ns:12,.0f}" for ns in line), flush=True)

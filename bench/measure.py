@@ -1,0 +1,119 @@
+"""Measures hoofrun and SQLite on the same bytes and prints two tables."""
+
+import math
+import subprocess
+import sys
+import time
+from pathlib import Path
+
+from growth import print_growth
+from inputs import Yard
+from loads import TWO_COLUMNS, autocommit, empty_transactions, herd, pedigree, sixteen_tables
+from loads import transactions, trims_text
+from ties import ties
+
+RUNS = 3
+SCHEMA_LENGTH_AT = 14
+CALL_BYTES = 96
+ROW_KINDS = (1, 2, 3)
+
+
+def loads(count):
+    """Pairs of a name and the calls; a star marks an input made for SQLite to win."""
+    yield "30 rows, autocommit", autocommit(Yard(trims_text(30, 30, 64), 1), count)
+    yield "30 rows, transactions", transactions(Yard(trims_text(30, 30, 128), 2), count, 24)
+    yield "200 rows, autocommit", autocommit(Yard(trims_text(200, 200, 64), 3), count)
+    yield "1,000 rows, autocommit", autocommit(Yard(trims_text(1000, 1000, 64), 4), count)
+    yield "1,000 rows, transactions", transactions(Yard(trims_text(1000, 1000, 280), 5), count, 60)
+    deferred = trims_text(600, 700, 190, spare=2, deferred="deferred")
+    yield "600 rows, deferred", transactions(Yard(deferred, 6, spare_columns=2), count, 40, True)
+    yield "pedigree of depth 16", pedigree(count)
+    yield "16 tables, depth 16", sixteen_tables(count)
+    yield "32 keys, all actions", ties(count)
+    yield "* 32 equal keys, 900 rows", autocommit(Yard(trims_text(900, 900, 64, keys=32), 7), count)
+    yield "* constant first column", autocommit(Yard(TWO_COLUMNS, 8, yard_column=True), count)
+    yield "* J = 750, long transactions", transactions(Yard(trims_text(60, 75, 750), 9), count, 700)
+    yield "* J = 750, empty transactions", empty_transactions(Yard(trims_text(60, 75, 750), 10), count)
+    yield "* 500 rows follow a parent", herd(count)
+
+
+class Sides:
+    """The two programs; each answers the seconds that an input took and what it printed."""
+
+    def __init__(self, hoofrun, sqlite_side, folder):
+        self.programs = hoofrun, sqlite_side
+        self.version = ""
+        self.input, self.output = Path(folder) / "input.bin", Path(folder) / "answers.txt"
+
+    def run(self, program):
+        """Runs a program on the input: seconds, lines, standard error."""
+        with open(self.input, "rb") as source, open(self.output, "wb") as sink:
+            start = time.perf_counter()
+            done = subprocess.run(
+                [program], stdin=source, stdout=sink, stderr=subprocess.PIPE, check=True
+            )
+            seconds = time.perf_counter() - start
+        return seconds, self.output.read_text().splitlines(), done.stderr
+
+    def hoofrun(self):
+        """hoofrun from start to end: starting, reading and printing are in its time."""
+        seconds, lines, _ = self.run(self.programs[0])
+        return seconds, [line.split(",") for line in lines[1:-1]]
+
+    def sqlite(self):
+        """SQLite by its own clock: only the calls are in its time."""
+        _, lines, told = self.run(self.programs[1])
+        seconds, self.version = told.decode().split()
+        return float(seconds), [line.split(",") for line in lines]
+
+    def best(self, data, runs=RUNS):
+        """The best seconds of both, one after the other on the same bytes."""
+        self.input.write_bytes(data)
+        times = []
+        for _ in range(runs):
+            ours, our_answers = self.hoofrun()
+            theirs, their_answers = self.sqlite()
+            times.append((ours, theirs))
+        self.compare(data, our_answers, their_answers)
+        return tuple(map(min, zip(*times)))
+
+    def compare(self, data, ours, theirs):
+        """Both must accept the same calls, and statements must change as many rows."""
+        at = int.from_bytes(data[SCHEMA_LENGTH_AT : SCHEMA_LENGTH_AT + 2], "little")
+        kinds = [data[i] for i in range(at, len(data), CALL_BYTES)]
+        if not len(kinds) == len(ours) == len(theirs):
+            sys.exit(f"measure: {len(kinds)} calls, {len(ours)} and {len(theirs)} answers")
+        for number, (kind, our, their) in enumerate(zip(kinds, ours, theirs)):
+            agree = (our[0] == "0") == (their[0] == "accepted")
+            if kind in ROW_KINDS:
+                agree = agree and our[1] == their[1]
+            if not agree:
+                sys.exit(f"measure: call {number} has answers {our} and {their}")
+
+
+def print_loads(sides, count):
+    """One line for each input, and the geometric mean of the ratios."""
+    print(f"{'calls a second':30}{'calls':>8}{'hoofrun':>13}{'SQLite':>13}{'ratio':>8}")
+    logarithms = []
+    for name, calls in loads(count):
+        ours, theirs = sides.best(calls.to_bytes())
+        logarithms.append(math.log(theirs / ours))
+        rates = f"{len(calls) / ours:13,.0f}{len(calls) / theirs:13,.0f}"
+        print(f"{name:30}{len(calls):8,}{rates}{theirs / ours:8.2f}", flush=True)
+    mean = math.exp(sum(logarithms) / len(logarithms))
+    print(f"{'geometric mean':64}{mean:8.2f}")
+    print(f"* made for SQLite to win. SQLite is {sides.version}, in memory.")
+
+
+def main():
+    """measure.py HOOFRUN SQLITE_SIDE FOLDER CALLS"""
+    if len(sys.argv) != 5:
+        sys.exit("usage: measure.py HOOFRUN SQLITE_SIDE FOLDER CALLS")
+    sides = Sides(*sys.argv[1:4])
+    print_loads(sides, int(sys.argv[4]))
+    print()
+    print_growth(sides)
+
+
+if __name__ == "__main__":
+    main()

@@ -1,0 +1,301 @@
+// The calls of a hoofrun input, carried out by SQLite on a database in memory.
+//
+//   sqlite_side <input >answers
+//
+// A line for each call, 'accepted,ROWS' or 'refused,0'; ROWS counts the rows that an insert, update or
+// delete changed, those of its actions included. The seconds that the calls took, and SQLite's version,
+// go to standard error: reading the input, making the tables, preparing the statements and printing are
+// not in those seconds.
+// The schema is taken for valid.
+#define _POSIX_C_SOURCE 200809L
+#include <sqlite3.h>
+#include <stdarg.h>
+#include <stdint.h>
+#include <stdio.h>
+#include <stdlib.h>
+#include <string.h>
+#include <time.h>
+
+enum { MOST_TABLES = 16, MOST_LEVELS = 9, CALL_BYTES = 96, HEADER_BYTES = 16, TABLE_BYTES = 80, KEY_BYTES = 16 };
+enum { INSERT = 1, UPDATE, DELETE, BEGIN, SAVEPOINT, RELEASE, ROLLBACK_TO, ROLLBACK, COMMIT };
+
+// A table or foreign key record as its bytes, read where it is needed.
+typedef const uint8_t *record;
+
+static sqlite3 *db;
+static int table_count, key_count, open_levels;
+static record table_records, key_records;
+static sqlite3_stmt *row_statements[DELETE + 1][MOST_TABLES];
+static sqlite3_stmt *level_statements[ROLLBACK_TO + 1][MOST_LEVELS + 1];
+static sqlite3_stmt *begin_statement, *rollback_statement, *commit_statement;
+
+static record table_record(int t) { return table_records + TABLE_BYTES * t; }
+static record key_record(int k) { return key_records + KEY_BYTES * k; }
+static int field16(const uint8_t *bytes) { return bytes[0] | bytes[1] << 8; }
+static int row_count(int t) { return field16(table_record(t)); }
+static int column_count(int t) { return table_record(t)[2]; }
+
+static void stop(const char *where) {
+    fprintf(stderr, "sqlite_side: %s: %s\n", where, db ? sqlite3_errmsg(db) : "no database");
+    exit(2);
+}
+
+// An SQL statement that is put together piece by piece.
+static char sql[1 << 16];
+static size_t sql_length;
+
+static void sql_start(void) { sql_length = 0; }
+static void add(const char *format, ...) {
+    va_list values;
+    va_start(values, format);
+    sql_length += vsnprintf(sql + sql_length, sizeof sql - sql_length, format, values);
+    va_end(values);
+    if (sql_length >= sizeof sql) stop("statement too long");
+}
+
+static void add_columns(const uint8_t *columns, int count) {
+    add("(");
+    for (int i = 0; i < count; i++) add("%sc%d", i ? "," : "", columns[i]);
+    add(")");
+}
+
+static void execute(const char *text) {
+    if (sqlite3_exec(db, text, 0, 0, 0) != SQLITE_OK) stop(text);
+}
+
+static sqlite3_stmt *prepared(void) {
+    sqlite3_stmt *statement;
+    if (sqlite3_prepare_v3(db, sql, -1, SQLITE_PREPARE_PERSISTENT, &statement, 0) != SQLITE_OK) stop(sql);
+    return statement;
+}
+
+// The columns of a mask, in rising order; answers their number.
+static int mask_columns(int mask, uint8_t *columns) {
+    int count = 0;
+    for (int c = 0; c < 8; c++)
+        if (mask >> c & 1) columns[count++] = c;
+    return count;
+}
+
+static void add_column_definitions(int t) {
+    record table = table_record(t);
+    for (int c = 0; c < column_count(t); c++) {
+        int64_t value;
+        memcpy(&value, table + 16 + 8 * c, 8);
+        add(",c%d INTEGER", c);
+        if (table[3] >> c & 1) add(" NOT NULL");
+        if (table[8] >> c & 1) add(" DEFAULT NULL");
+        else add(" DEFAULT (%lld)", (long long)value);
+    }
+}
+
+static void add_foreign_key(record key) {
+    static const char *const actions[] = {"NO ACTION", "RESTRICT", "SET NULL", "SET DEFAULT", "CASCADE"};
+    add(",FOREIGN KEY");
+    add_columns(key + 6, key[5]);
+    add(" REFERENCES t%d", key[1]);
+    add_columns(key + 10, key[5]);
+    add(" ON DELETE %s ON UPDATE %s", actions[key[3]], actions[key[4]]);
+    if (key[2]) add(" DEFERRABLE INITIALLY DEFERRED");
+}
+
+// The row number is SQLite's own row id. SQLite runs the key declared last first, so keys go backwards.
+static void create_table(int t) {
+    sql_start();
+    add("CREATE TABLE t%d(r INTEGER PRIMARY KEY", t);
+    add_column_definitions(t);
+    for (int u = 4; u < 8 && table_record(t)[u]; u++) {
+        uint8_t columns[8];
+        int count = mask_columns(table_record(t)[u], columns);
+        add(",UNIQUE");
+        add_columns(columns, count);
+    }
+    for (int k = key_count - 1; k >= 0; k--)
+        if (key_record(k)[0] == t) add_foreign_key(key_record(k));
+    add(")");
+    execute(sql);
+}
+
+// The child columns of a foreign key as a mask.
+static int child_mask(record key) {
+    int mask = 0;
+    for (int i = 0; i < key[5]; i++) mask |= 1 << key[6 + i];
+    return mask;
+}
+
+// Whether the child key has an index: a unique key that begins with its columns, or an earlier key's.
+static int is_indexed(int k) {
+    record key = key_record(k);
+    for (int u = 4; u < 8; u++) {
+        uint8_t columns[8];
+        int begin = 0, count = mask_columns(table_record(key[0])[u], columns);
+        for (int i = 0; i < count && i < key[5]; i++) begin |= 1 << columns[i];
+        if (begin == child_mask(key)) return 1;
+    }
+    for (int other = 0; other < k; other++)
+        if (key_record(other)[0] == key[0] && child_mask(key_record(other)) == child_mask(key)) return 1;
+    return 0;
+}
+
+static void create_indexes(void) {
+    for (int k = 0; k < key_count; k++) {
+        if (is_indexed(k)) continue;
+        sql_start();
+        add("CREATE INDEX i%d ON t%d", k, key_record(k)[0]);
+        add_columns(key_record(k) + 6, key_record(k)[5]);
+        execute(sql);
+    }
+}
+
+// An INSERT .. VALUES that an immediate key refuses leaves SQLite's count of deferred orphans raised if
+// the table has a deferred key too; INSERT .. SELECT does not.
+static int has_both_kinds(int t) {
+    int immediate = 0, deferred = 0;
+    for (int k = 0; k < key_count; k++) {
+        if (key_record(k)[0] != t) continue;
+        if (key_record(k)[2]) deferred = 1;
+        else immediate = 1;
+    }
+    return immediate && deferred;
+}
+
+static void prepare_row_statements(int t) {
+    int columns = column_count(t), select = has_both_kinds(t);
+    sql_start();
+    add("INSERT INTO t%d %s?1", t, select ? "SELECT " : "VALUES(");
+    for (int c = 0; c < columns; c++) add(",?%d", c + 2);
+    if (!select) add(")");
+    row_statements[INSERT][t] = prepared();
+    sql_start();
+    add("UPDATE t%d SET ", t);
+    for (int c = 0; c < columns; c++) add("%sc%d=?%d", c ? "," : "", c, c + 2);
+    add(" WHERE r=?1");
+    row_statements[UPDATE][t] = prepared();
+    sql_start();
+    add("DELETE FROM t%d WHERE r=?1", t);
+    row_statements[DELETE][t] = prepared();
+}
+
+static sqlite3_stmt *prepare_plain(const char *format, int level) {
+    sql_start();
+    add(format, level);
+    return prepared();
+}
+
+static void prepare_level_statements(void) {
+    begin_statement = prepare_plain("BEGIN", 0);
+    rollback_statement = prepare_plain("ROLLBACK", 0);
+    commit_statement = prepare_plain("COMMIT", 0);
+    for (int level = 1; level <= MOST_LEVELS; level++) {
+        level_statements[SAVEPOINT][level] = prepare_plain("SAVEPOINT l%d", level);
+        level_statements[RELEASE][level] = prepare_plain("RELEASE l%d", level);
+        level_statements[ROLLBACK_TO][level] = prepare_plain("ROLLBACK TO l%d", level);
+    }
+}
+
+static void open_book(const uint8_t *schema) {
+    table_count = field16(schema + 4), key_count = field16(schema + 6);
+    table_records = schema + HEADER_BYTES, key_records = table_records + TABLE_BYTES * table_count;
+    sqlite3_config(SQLITE_CONFIG_SINGLETHREAD);
+    sqlite3_config(SQLITE_CONFIG_MEMSTATUS, 0);
+    if (sqlite3_open(":memory:", &db) != SQLITE_OK) stop("open");
+    execute("PRAGMA foreign_keys=ON; PRAGMA journal_mode=MEMORY; PRAGMA synchronous=OFF;"
+            "PRAGMA temp_store=MEMORY; PRAGMA locking_mode=EXCLUSIVE; PRAGMA cache_size=-65536");
+    for (int t = table_count - 1; t >= 0; t--) create_table(t);
+    create_indexes();
+    for (int t = 0; t < table_count; t++) prepare_row_statements(t);
+    prepare_level_statements();
+}
+
+// Whether each word is in its range and the unused ones are 0, as the paper's refusal 4 wants it.
+static int well_formed(const int64_t *call) {
+    int64_t kind = call[0], a = call[1], b = call[2], mask = call[3];
+    int columns = 0;
+    if (kind < INSERT || kind > COMMIT) return 0;
+    if (kind <= DELETE) {
+        if (a < 0 || a >= table_count || b < 0 || b >= row_count(a)) return 0;
+        if (kind != DELETE) columns = column_count(a);
+    } else if (b || (kind == RELEASE || kind == ROLLBACK_TO ? a < 1 || a > MOST_LEVELS : a != 0)) {
+        return 0;
+    }
+    if (mask < 0 || mask >> columns) return 0;
+    for (int c = 0; c < 8; c++)
+        if (call[4 + c] && (c >= columns || mask >> c & 1)) return 0;
+    return 1;
+}
+
+static int run(sqlite3_stmt *statement) {
+    int done = sqlite3_step(statement) == SQLITE_DONE;
+    sqlite3_reset(statement);
+    return done;
+}
+
+// SQLite accepts an update or a delete of a row that is not there; here that is a refusal.
+static int run_row_call(const int64_t *call) {
+    sqlite3_stmt *statement = row_statements[call[0]][call[1]];
+    sqlite3_bind_int64(statement, 1, call[2]);
+    for (int c = 0; call[0] != DELETE && c < column_count(call[1]); c++)
+        if (call[3] >> c & 1) sqlite3_bind_null(statement, c + 2);
+        else sqlite3_bind_int64(statement, c + 2, call[4 + c]);
+    return run(statement) && sqlite3_changes(db) == 1;
+}
+
+// SQLite has no limit of levels; a tenth one is refused here.
+static int run_level_call(const int64_t *call) {
+    int level = call[1], levels_after = 0;
+    sqlite3_stmt *statement;
+    switch (call[0]) {
+    case BEGIN: statement = begin_statement, levels_after = 1; break;
+    case SAVEPOINT:
+        if (open_levels == MOST_LEVELS) return 0;
+        levels_after = open_levels + 1, statement = level_statements[SAVEPOINT][levels_after];
+        break;
+    case RELEASE: statement = level_statements[RELEASE][level], levels_after = level - 1; break;
+    case ROLLBACK_TO: statement = level_statements[ROLLBACK_TO][level], levels_after = level; break;
+    case ROLLBACK: statement = rollback_statement; break;
+    default: statement = commit_statement; break;
+    }
+    if (!run(statement)) return 0;
+    open_levels = levels_after;
+    return 1;
+}
+
+static double seconds_now(void) {
+    struct timespec now;
+    clock_gettime(CLOCK_MONOTONIC, &now);
+    return now.tv_sec + now.tv_nsec * 1e-9;
+}
+
+static uint8_t *read_input(size_t *length) {
+    size_t room = 1 << 20, got;
+    uint8_t *bytes = malloc(room);
+    for (*length = 0; bytes && (got = fread(bytes + *length, 1, room - *length, stdin)) > 0;)
+        if ((*length += got) == room) bytes = realloc(bytes, room *= 2);
+    if (!bytes) stop("no memory");
+    return bytes;
+}
+
+int main(void) {
+    size_t length;
+    uint8_t *input = read_input(&length);
+    if (length < HEADER_BYTES || length < (size_t)field16(input + 14)) stop("short input");
+    open_book(input);
+    const uint8_t *calls = input + field16(input + 14);
+    size_t count = (length - field16(input + 14)) / CALL_BYTES;
+    int *changed = malloc((count + 1) * sizeof *changed); // -1 where refused
+    if (!changed) stop("no memory");
+    double start = seconds_now();
+    for (size_t i = 0; i < count; i++) {
+        int64_t call[12];
+        memcpy(call, calls + CALL_BYTES * i, CALL_BYTES);
+        int before = sqlite3_total_changes(db);
+        int accepted = well_formed(call) && (call[0] <= DELETE ? run_row_call(call) : run_level_call(call));
+        changed[i] = accepted ? sqlite3_total_changes(db) - before : -1;
+    }
+    double seconds = seconds_now() - start;
+    for (size_t i = 0; i < count; i++)
+        if (changed[i] < 0) puts("refused,0");
+        else printf("accepted,%d\n", changed[i]);
+    fprintf(stderr, "%.9f %s\n", seconds, sqlite3_libversion());
+    return 0;
+}

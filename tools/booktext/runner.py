@@ -1,0 +1,99 @@
+"""Runs hoofrun on a text and lays its answers beside the calls."""
+
+import os
+import re
+import subprocess
+from pathlib import Path
+
+from .reader import read_text
+
+BUILT = Path(__file__).resolve().parents[2] / "target" / "bin" / "hoofrun"
+OUTPUT = re.compile(
+    r"code,changed,net\n"
+    r"(?P<answers>([0-9]+,[0-9]+,-?[0-9]+\n)*)"
+    r"(?P<tally>accepted,[0-9]+,refused,[0-9]+,rows,[0-9]+)\n"
+)
+
+REFUSALS = {
+    1: "schema malformed",
+    2: "parent columns are no unique key",
+    3: "area over 8,192 words",
+    4: "call malformed",
+    10: "area damaged",
+    11: "insert on a live row, or change of a vacant one",
+    12: "no such level, or begin inside a transaction",
+    13: "nine levels open",
+    14: "actions too deep",
+    15: "journal full",
+    16: "NOT NULL",
+    17: "not unique",
+    18: "RESTRICT",
+    19: "kept orphans out of range",
+    20: "orphans left",
+    21: "commit with orphans",
+}
+SCHEMA_REFUSALS = (1, 2, 3)
+
+
+class HoofrunError(Exception):
+    """hoofrun cannot be run, or does not print what it should."""
+
+
+def hoofrun_path():
+    """The program: $HOOFRUN, or the one that the repository builds."""
+    return os.environ.get("HOOFRUN") or str(BUILT)
+
+
+def run_hoofrun(data):
+    """Runs hoofrun on bytes; gives its answers, triples of numbers, and its last line."""
+    path = hoofrun_path()
+    try:
+        done = subprocess.run([path], input=data, capture_output=True, check=True)
+    except (OSError, subprocess.CalledProcessError) as error:
+        raise HoofrunError(f"cannot run hoofrun: {error}; set HOOFRUN to its path") from error
+    printed = OUTPUT.fullmatch(done.stdout.decode("ascii", "replace"))
+    if not printed:
+        raise HoofrunError(f"{path} does not print the lines of hoofrun")
+    answers = [tuple(map(int, answer.split(","))) for answer in printed["answers"].splitlines()]
+    return answers, printed["tally"]
+
+
+def answer_text(answer):
+    """An answer in columns, with its name if it is a refusal."""
+    code, changed, net = answer
+    name = f"  {REFUSALS.get(code, 'unknown refusal')}" if code else ""
+    return f"{code:6}{changed:6}{net:6}{name}"
+
+
+def tally_text(tally):
+    """The last line as words: accepted 6, refused 2, rows 6."""
+    words = tally.split(",")
+    return ", ".join(f"{word} {number}" for word, number in zip(words[::2], words[1::2]))
+
+
+def laid_out(text, book, answers):
+    """The lines of the text, each call with its answer; a refused schema has one line of its own."""
+    lines = [line.rstrip() for line in text.removesuffix("\n").split("\n")]
+    answered = [number for number, _ in book.calls]
+    if book.schema and book.raw:
+        answered.append(book.raw_line)
+    width = max([len(lines[number - 1]) for number in answered] + [len("the schema")])
+    below_schema = [" " * width + f"{'code':>6}{'rows':>6}{'net':>6}"]
+    if answers and answers[0][0] in SCHEMA_REFUSALS:
+        below_schema.append(f"{'the schema':{width}}" + answer_text(answers[0]))
+        answered = []
+    elif len(answers) != len(answered):
+        raise HoofrunError(f"hoofrun gave {len(answers)} answers to {len(answered)} calls")
+    for number, answer in zip(answered, answers):
+        lines[number - 1] = f"{lines[number - 1]:{width}}" + answer_text(answer)
+    schema_end = book.schema_line if book.schema else len(lines)
+    while schema_end < len(lines) and not lines[schema_end]:
+        schema_end += 1
+    return lines[:schema_end] + below_schema + lines[schema_end:]
+
+
+def run_text(text):
+    """What running hoofrun on a text shows."""
+    book = read_text(text)
+    answers, tally = run_hoofrun(book.to_bytes())
+    return "\n".join(laid_out(text, book, answers) + [tally_text(tally)]) + "\n"

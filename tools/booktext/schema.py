@@ -1,0 +1,164 @@
+"""Tables and foreign keys, and the schema bytes that say them."""
+
+import struct
+from dataclasses import dataclass, field
+
+MAGIC = bytes.fromhex("464B4231")
+ACTIONS = ("no action", "restrict", "set null", "set default", "cascade")
+MOST_COLUMNS = 8
+MOST_UNIQUE = 4
+MOST_KEY_COLUMNS = 4
+
+HEADER = struct.Struct("<4s6H")  # magic, T, F, offset of tables, offset of foreign keys, J, length
+TABLE = struct.Struct("<HBB4sB7x8q")  # R, C, NOT NULL, unique masks, default-is-NULL, defaults
+FOREIGN_KEY = struct.Struct("<6B4s4s2x")  # child, parent, deferred, actions, n, columns of both
+NO_COLUMN = 255
+
+
+@dataclass
+class Column:
+    """A column; its default is an integer, or None for NULL."""
+
+    name: str
+    not_null: bool = False
+    default: int | None = 0
+
+
+@dataclass
+class Table:
+    """A table; each unique key is a rising list of column numbers."""
+
+    name: str
+    rows: int
+    columns: list = field(default_factory=list)
+    unique: list = field(default_factory=list)
+
+    def column_number(self, name):
+        """The number of the column with this name, or None."""
+        names = [column.name for column in self.columns]
+        return names.index(name) if name in names else None
+
+
+@dataclass
+class ForeignKey:
+    """A foreign key; tables, columns and actions are numbers."""
+
+    child: int
+    child_columns: list
+    parent: int
+    parent_columns: list
+    on_delete: int = 0
+    on_update: int = 0
+    deferred: bool = False
+
+
+@dataclass
+class Schema:
+    """The tables, the foreign keys and the journal room of a book."""
+
+    tables: list = field(default_factory=list)
+    keys: list = field(default_factory=list)
+    journal: int | None = None
+
+    def table_number(self, name):
+        """The number of the table with this name, or None."""
+        names = [table.name for table in self.tables]
+        return names.index(name) if name in names else None
+
+    def length(self):
+        """The number of schema bytes."""
+        return HEADER.size + TABLE.size * len(self.tables) + FOREIGN_KEY.size * len(self.keys)
+
+    def fits(self):
+        """Whether the length goes into 16 bits, and each table's number into a byte."""
+        return self.length() < 1 << 16 and len(self.tables) <= 256
+
+
+def mask_of(columns):
+    """The mask with the bits of these column numbers."""
+    return sum(1 << column for column in set(columns))
+
+
+def columns_in(mask, count):
+    """The column numbers below count whose bits are set."""
+    return [column for column in range(count) if mask >> column & 1]
+
+
+def table_bytes(table):
+    """A table record."""
+    columns = table.columns
+    masks = [mask_of(key) for key in table.unique] + [0] * (MOST_UNIQUE - len(table.unique))
+    not_null = mask_of(c for c, column in enumerate(columns) if column.not_null)
+    null_default = mask_of(c for c, column in enumerate(columns) if column.default is None)
+    defaults = [column.default or 0 for column in columns] + [0] * (MOST_COLUMNS - len(columns))
+    return TABLE.pack(
+        table.rows, len(columns), not_null, bytes(masks), null_default, *defaults
+    )
+
+
+def key_bytes(key):
+    """A foreign key record."""
+    count = len(key.child_columns)
+    rest = [NO_COLUMN] * (MOST_KEY_COLUMNS - count)
+    numbers = (key.child, key.parent, key.deferred, key.on_delete, key.on_update, count)
+    columns = (bytes(key.child_columns + rest), bytes(key.parent_columns + rest))
+    return FOREIGN_KEY.pack(*numbers, *columns)
+
+
+def schema_bytes(schema):
+    """The whole schema: header, table records, foreign key records."""
+    tables, keys = len(schema.tables), len(schema.keys)
+    keys_at = HEADER.size + TABLE.size * tables
+    header = (MAGIC, tables, keys, HEADER.size, keys_at, schema.journal, schema.length())
+    records = [table_bytes(table) for table in schema.tables]
+    records += [key_bytes(key) for key in schema.keys]
+    return HEADER.pack(*header) + b"".join(records)
+
+
+def read_table(number, record):
+    """The table that a record says, its columns named c0, c1 and so on."""
+    rows, count, not_null, masks, null_default, *defaults = TABLE.unpack(record)
+    table = Table(f"t{number}", rows)
+    for c in range(min(count, MOST_COLUMNS)):
+        default = None if null_default >> c & 1 else defaults[c]
+        table.columns.append(Column(f"c{c}", bool(not_null >> c & 1), default))
+    table.unique = [columns_in(mask, count) for mask in masks if mask]
+    return table
+
+
+def read_key(record):
+    """The foreign key that a record says."""
+    child, parent, deferred, on_delete, on_update, count, *columns = FOREIGN_KEY.unpack(record)
+    child_columns, parent_columns = (list(part[:count]) for part in columns)
+    return ForeignKey(
+        child, child_columns, parent, parent_columns, on_delete, on_update, bool(deferred)
+    )
+
+
+def has_names(schema, key):
+    """Whether the key has columns, and each table, column and action that it says has a name."""
+    tables = len(schema.tables)
+    if not key.child_columns or key.child >= tables or key.parent >= tables:
+        return False
+    if max(key.on_delete, key.on_update) >= len(ACTIONS):
+        return False
+    children = len(schema.tables[key.child].columns)
+    parents = len(schema.tables[key.parent].columns)
+    return max(key.child_columns) < children and max(key.parent_columns) < parents
+
+
+def read_schema(data):
+    """The schema that these bytes say, or None where lines of tables and keys cannot say them."""
+    if len(data) < HEADER.size:
+        return None
+    _, tables, keys, _, _, journal, _ = HEADER.unpack(data[: HEADER.size])
+    keys_at = HEADER.size + TABLE.size * tables
+    if len(data) != keys_at + FOREIGN_KEY.size * keys:
+        return None
+    schema = Schema(journal=journal)
+    for number, at in enumerate(range(HEADER.size, keys_at, TABLE.size)):
+        schema.tables.append(read_table(number, data[at : at + TABLE.size]))
+    for at in range(keys_at, len(data), FOREIGN_KEY.size):
+        schema.keys.append(read_key(data[at : at + FOREIGN_KEY.size]))
+    named = schema.fits() and all(has_names(schema, key) for key in schema.keys)
+    return schema if named and schema_bytes(schema) == data else None

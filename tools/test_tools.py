@@ -1,0 +1,221 @@
+#!/usr/bin/env python3
+"""Tests of the text form and of the lessons; the last line is 'N passed, M failed'."""
+
+import os
+import random
+import struct
+import subprocess
+import sys
+import tempfile
+from pathlib import Path
+
+import check_lessons
+from booktext.line import Mistake
+from booktext.reader import read_text
+from booktext.runner import REFUSALS, HoofrunError, run_hoofrun, run_text
+from booktext.writer import text_of
+from tooltests.inputs import damaged, whole_input
+from tooltests.mistakes import TABLES, all_mistakes
+
+TOOL = Path(__file__).resolve().parent / "hooftext.py"
+RANDOM_INPUTS = 400
+
+PAPER_SCHEMA = bytes.fromhex(
+    "464B4231 0200 0100 1000 B000 0800 C000"
+    + "0400 01 01 01000000 00 00000000000000" + "00" * 64
+    + "0400 02 01 01000000 00 00000000000000" + "00" * 64
+    + "01 00 01 04 04 01 01FFFFFF 00FFFFFF 0000"
+)
+PAPER_CALLS = [
+    (4,), (1, 1, 0, 0, 11, 5), (9,), (1, 0, 0, 0, 5), (9,), (2, 0, 0, 0, 6), (3, 0, 1), (3, 0, 0),
+]
+PAPER_ANSWERS = [
+    (0, 0, 0), (0, 1, 1), (21, 0, 0), (0, 1, -1), (0, 0, 0), (0, 2, 0), (11, 0, 0), (0, 2, 0),
+]
+
+EVERY_FIELD = """\
+table a rows 3
+  column x not null default -2   # a comment
+  unique (x)
+  column y unique default null
+  unique (y, x)
+table b rows 1024
+  column x default 7
+
+key a.(y, x) -> a.(x, y) on delete set null on update set default
+key b.x -> a.y on update restrict deferred
+journal 4096
+update a 2 y=null x=-9
+rollback to 2
+words 1 2 3 4 5 6 7 8 9 10 11 -12
+bytes 0a FF
+"""
+EVERY_FIELD_BYTES = (
+    struct.pack("<4s6H", b"FKB1", 2, 2, 16, 176, 4096, 208)
+    + struct.pack("<HBB4BB7x8q", 3, 2, 1, 1, 2, 3, 0, 2, -2, 0, 0, 0, 0, 0, 0, 0)
+    + struct.pack("<HBB4BB7x8q", 1024, 1, 0, 0, 0, 0, 0, 0, 7, 0, 0, 0, 0, 0, 0, 0)
+    + bytes([0, 0, 0, 2, 3, 2, 1, 0, 255, 255, 0, 1, 255, 255, 0, 0])
+    + bytes([1, 0, 1, 0, 1, 1, 0, 255, 255, 255, 1, 255, 255, 255, 0, 0])
+    + struct.pack("<12q", 2, 0, 2, 2, -9, 0, 0, 0, 0, 0, 0, 0)
+    + struct.pack("<12q", 7, 2, 0, 0, 0, 0, 0, 0, 0, 0, 0, 0)
+    + struct.pack("<12q", 1, 2, 3, 4, 5, 6, 7, 8, 9, 10, 11, -12)
+    + b"\x0a\xff"
+)
+DECODED = """\
+table t0 rows 3
+  column c0 not null unique default -2
+  column c1 unique default null
+  unique (c0, c1)
+table t1 rows 1024
+  column c0 default 7
+key t0.(c1, c0) -> t0.(c0, c1) on delete set null on update set default
+key t1.c0 -> t0.c1 on update restrict deferred
+journal 4096
+update t0 2 c0=-9 c1=null
+rollback to 2
+words 1 2 3 4 5 6 7 8 9 10 11 -12
+bytes 0A FF
+"""
+
+
+class Checks:
+    """Counts checks and tells those that fail."""
+
+    def __init__(self):
+        self.passed = self.failed = 0
+
+    def check(self, name, holds, detail=""):
+        """Counts one check."""
+        if holds:
+            self.passed += 1
+        else:
+            self.failed += 1
+            print(f"failed: {name} {detail}".rstrip())
+
+
+def returns(data):
+    """Whether bytes come back from their text, and the text from its bytes."""
+    text = text_of(data)
+    again = read_text(text).to_bytes()
+    return again == data and text_of(again) == text
+
+
+def check_encoding(checks):
+    """Texts against bytes that are written out here."""
+    paper = (check_lessons.EXAMPLES / "paper.txt").read_text(encoding="utf-8")
+    calls = b"".join(struct.pack("<12q", *c, *[0] * (12 - len(c))) for c in PAPER_CALLS)
+    checks.check("bytes of the paper's example", read_text(paper).to_bytes() == PAPER_SCHEMA + calls)
+    checks.check("bytes of every field", read_text(EVERY_FIELD).to_bytes() == EVERY_FIELD_BYTES)
+    checks.check("text of every field", text_of(EVERY_FIELD_BYTES) == DECODED)
+    windows = EVERY_FIELD.replace("\n", "\r\n")
+    checks.check("lines that end with CR LF", read_text(windows).to_bytes() == EVERY_FIELD_BYTES)
+    text = "bytes 46 4b\nbytes\n# nothing\nbytes 00\n"
+    checks.check("bytes alone", read_text(text).to_bytes() == b"FK\0")
+
+
+def check_round_trips(checks):
+    """Bytes to text and back: the examples, random inputs, damaged ones."""
+    for path in sorted(check_lessons.EXAMPLES.glob("*.txt")):
+        data = read_text(path.read_text(encoding="utf-8")).to_bytes()
+        checks.check(f"round trip of {path.name}", returns(data))
+    for data in (b"", b"F", b"FKB1" + bytes(12), bytes(96), b"FKB1" + b"\xff" * 300):
+        checks.check(f"round trip of {data[:8]}", returns(data))
+    source = random.Random(2024)
+    for number in range(RANDOM_INPUTS):
+        data = whole_input(source)
+        told = not text_of(data).startswith("bytes")
+        checks.check(f"round trip of random input {number}", told and returns(data))
+        checks.check(f"round trip of damaged input {number}", returns(damaged(source, data)))
+
+
+def check_mistakes(checks):
+    """Each mistake is reported on its line."""
+    for text, line_number, part in all_mistakes():
+        try:
+            read_text(text)
+            found = "no mistake"
+        except Mistake as mistake:
+            found = f"{mistake.line_number}: {mistake}"
+        right = found.startswith(f"{line_number}: ") and part in found
+        checks.check(f"mistake on line {line_number}, {part!r}", right, f"found {found}")
+
+
+def check_runs(checks):
+    """Answers of hoofrun, and how they are laid beside the calls."""
+    calls = b"".join(struct.pack("<12q", *c, *[0] * (12 - len(c))) for c in PAPER_CALLS)
+    answers, tally = run_hoofrun(PAPER_SCHEMA + calls)
+    checks.check("answers of the paper's example", answers == PAPER_ANSWERS)
+    checks.check("tally of the paper's example", tally == "accepted,6,refused,2,rows,6")
+    codes = [1, 2, 3, 4, *range(10, 22)]
+    checks.check("names of the refusals", sorted(REFUSALS) == codes and all(REFUSALS.values()))
+    for text, code in (
+        (TABLES.replace("journal 8", "journal 0"), 1),
+        (TABLES.replace("horses.number", "horses.weight"), 2),
+        (TABLES.replace("rows 4", "rows 1024").replace("journal 8", "journal 4096"), 3),
+        ("bytes\n", 1),
+    ):
+        shown = run_text(text + ("commit\n" if code > 1 else ""))
+        line = f"the schema{code:6}{0:6}{0:6}  {REFUSALS[code]}\n"
+        checks.check(f"a schema refused by {code}", line in shown, shown)
+        checks.check(f"tally of {code}", shown.endswith("\naccepted 0, refused 1, rows 0\n"), shown)
+    shown = run_text(TABLES + "begin # open\nbytes 01 02\n")
+    lines = shown.splitlines()[-3:]
+    checks.check("a call beside its answer", lines[0].split("open")[1].split() == ["0"] * 3, shown)
+    checks.check("a short last call", lines[1].endswith("     4     0     0  call malformed"), shown)
+
+
+def tool(*arguments, data=b"", **environment):
+    """Runs the command line tool: status, standard output, standard error."""
+    done = subprocess.run(
+        [sys.executable, str(TOOL), *arguments],
+        input=data, capture_output=True, check=False, env={**os.environ, **environment},
+    )
+    return done.returncode, done.stdout, done.stderr.decode()
+
+
+def check_commands(checks):
+    """The command line: files, standard streams, usage, mistakes."""
+    with tempfile.TemporaryDirectory() as folder:
+        text, data, again = (os.path.join(folder, name) for name in ("a.txt", "a.bin", "b.txt"))
+        Path(text).write_text(EVERY_FIELD, encoding="utf-8")
+        checks.check("encode", tool("encode", text, data) == (0, b"", ""))
+        checks.check("encoded file", Path(data).read_bytes() == EVERY_FIELD_BYTES)
+        checks.check("decode", tool("decode", data, again) == (0, b"", ""))
+        checks.check("decoded file", read_text(Path(again).read_text()).to_bytes() == EVERY_FIELD_BYTES)
+        Path(text).write_text(TABLES + "begin\ncomit\n", encoding="utf-8")
+        for arguments in (("encode", text, os.path.join(folder, "c.bin")), ("run", text)):
+            status, out, err = tool(*arguments)
+            told = err.startswith(f"{text}:10: expected ") and err.endswith("found 'comit'\n")
+            checks.check(f"{arguments[0]} of a mistake", (status, out) == (1, b"") and told, err)
+        checks.check("nothing written", not os.path.exists(os.path.join(folder, "c.bin")))
+    checks.check("streams", tool("encode", "-", "-", data=TABLES.encode())[1][:4] == b"FKB1")
+    checks.check("byte order mark", tool("encode", "-", "-", data=b"\xef\xbb\xbfbytes 01")[1] == b"\x01")
+    told = tool("encode", "-", "-", data=b"\n\xff")[2]
+    checks.check("no text", told == "-:2: expected text, found the byte FF\n", told)
+    checks.check("no such file", tool("run", "/nowhere/a.txt")[0] == 1)
+    status, out, err = tool("run", "-", data=TABLES.encode(), HOOFRUN="/nowhere/hoofrun")
+    checks.check("no hoofrun", (status, out) == (1, b"") and "cannot run hoofrun" in err, err)
+    status, out, err = tool("run", "-", data=TABLES.encode(), HOOFRUN="/bin/true")
+    checks.check("another program", (status, out) == (1, b"") and "does not print" in err, err)
+    for arguments in ((), ("help",), ("encode", "a"), ("decode", "a", "b", "c"), ("run",)):
+        status, out, err = tool(*arguments)
+        used = (status, out) == (2, b"") and err.startswith("usage: hooftext.py encode TEXT BYTES")
+        checks.check(f"usage after {arguments}", used, err)
+
+
+def main():
+    """Runs every check; the status is 0 only where none failed."""
+    checks = Checks()
+    for run in (check_encoding, check_round_trips, check_mistakes, check_runs, check_commands):
+        try:
+            run(checks)
+        except HoofrunError as error:
+            checks.check(run.__name__, False, error)
+    for name, fault in check_lessons.check():
+        checks.check(f"lesson {name}", not fault, fault)
+    print(f"{checks.passed} passed, {checks.failed} failed")
+    return 1 if checks.failed else 0
+
+
+if __name__ == "__main__":
+    sys.exit(main())

@@ -1,0 +1,110 @@
+"""Texts with one mistake each: the line it is on and what the message must say."""
+
+TABLES = """\
+table horses rows 4
+  column number not null unique
+  column weight default null
+table trims rows 4
+  column number not null unique
+  column horse
+key trims.horse -> horses.number on delete cascade deferred
+journal 8
+"""
+
+SCHEMA_MISTAKES = [
+    ("tabel horses rows 4\n", 1, "expected table, column, unique, key"),
+    ("table\n", 1, "expected the table's name, found the end of the line"),
+    ("table horses\n", 1, "expected 'rows', found the end of the line"),
+    ("table horses rows many\n", 1, "expected the number of rows, found 'many'"),
+    ("table horses rows 65536\n", 1, "from 0 to 65535, found 65536"),
+    ("table horses rows -1\n", 1, "from 0 to 65535, found -1"),
+    ("table horses rows " + "9" * 5000 + "\n", 1, "from 0 to 65535"),
+    ("table horses rows 4 5\n", 1, "expected the end of the line, found '5'"),
+    ("table horses rows 4\ntable horses rows 5\n", 2, "there is a table horses already"),
+    ("column number\n", 1, "expected a table line above"),
+    ("table a rows 1\n  column\n", 2, "expected the column's name"),
+    ("table a rows 1\n  column x\n  column x\n", 3, "has a column x already"),
+    ("table a rows 1\n  column x null\n", 2, "expected 'not null', 'unique', 'default'"),
+    ("table a rows 1\n  column x unique not null\n", 2, "found 'not'"),
+    ("table a rows 1\n  column x default\n", 2, "expected a whole number or null"),
+    ("table a rows 1\n  column x default big\n", 2, "whole number or null, found 'big'"),
+    ("table a rows 1\n  column x default 9223372036854775808\n", 2, "to 9223372036854775807"),
+    ("table a rows 1\n  column x\n  unique x\n", 3, "expected columns in parentheses"),
+    ("table a rows 1\n  column x\n  unique (y)\n", 3, "expected a column of a (x), found 'y'"),
+    ("table a rows 1\n  column x\n  unique (x, x)\n", 3, "expected each column once"),
+    ("table a rows 1\n  column x\n  unique (x\n", 3, "expected ',' or ')'"),
+    ("table a rows 1\n  column x unique\n" + "  unique (x)\n" * 4, 6, "at most 4 unique keys"),
+    ("table a rows 1\n" + "".join(f"  column x{i}\n" for i in range(9)), 10, "at most 8 columns"),
+    ("".join(f"table a{i} rows 1\n" for i in range(257)), 257, "expected at most 256 tables"),
+    ("key trims.horse -> horses.number\n", 1, "there is none yet"),
+    (TABLES + "journal 9\n", 9, "expected one journal line"),
+    ("table a rows 1\n  column x\n", 2, "expected a line 'journal N'"),
+    ("\n", 1, "expected a line 'journal N'"),
+    ("journal\n", 1, "expected the number of journal records"),
+    ("journal 8\n  column x\n", 2, "expected a table line above"),
+    ("table a rows 1 ?\n", 1, "found '?'"),
+]
+
+KEY_MISTAKES = [
+    ("key trim.horse -> horses.number", "expected the name of a table (horses, trims), found 'trim'"),
+    ("key trims horse -> horses.number", "expected '.', found 'horse'"),
+    ("key trims.hoof -> horses.number", "expected a column of trims (number, horse), found 'hoof'"),
+    ("key trims.horse horses.number", "expected '->'"),
+    ("key trims.horse ->", "expected the name of a table (horses, trims), found the end"),
+    ("key trims.horse -> horses.(number, weight)", "expected as many parent columns"),
+    ("key trims.(horse, horse, horse, horse, horse) -> horses.number", "at most 4 columns"),
+    ("key trims.horse -> horses.number on delete drop", "expected one of no action, restrict"),
+    ("key trims.horse -> horses.number on update", "expected one of no action, restrict"),
+    ("key trims.horse -> horses.number on delete cascade on delete cascade", "each at most once"),
+    ("key trims.horse -> horses.number postponed", "found 'postponed'"),
+    ("key trims.horse -> horses.number deferred on delete cascade", "in this order"),
+]
+
+CALL_MISTAKES = [
+    ("insert", "expected the name of a table"),
+    ("insert goats 0 number=1", "expected the name of a table (horses, trims), found 'goats'"),
+    ("insert trims number=1", "expected a row number, found 'number'"),
+    ("insert trims 0 number=1", "expected every column of trims, horse is missing"),
+    ("insert trims 0 number=1 horse=2 horse=3", "horse is given twice"),
+    ("insert trims 0 number=1 hoof=2", "expected a column of trims (number, horse), found 'hoof'"),
+    ("insert trims 0 number 1 horse=2", "expected '=', found '1'"),
+    ("insert trims 0 number= horse=2", "expected a whole number or null, found 'horse'"),
+    ("insert trims 0 number=1 horse=NULL", "expected a whole number or null, found 'NULL'"),
+    ("insert trims 0 number=1 horse=-9223372036854775809", "from -9223372036854775808"),
+    ("insert trims 0 number=1.5 horse=2", "found '.'"),
+    ("delete trims", "expected a row number, found the end of the line"),
+    ("delete trims 0 number=1", "expected the end of the line, found 'number'"),
+    ("begin 1", "expected the end of the line, found '1'"),
+    ("release", "expected a level, found the end of the line"),
+    ("rollback 1", "expected the end of the line, found '1'"),
+    ("rollback to", "expected a level"),
+    ("begn", "found 'begn'"),
+    ("words 1 2 3", "expected twelve words, found 3"),
+    ("words 1 2 3 4 5 6 7 8 9 10 11 12 13", "expected twelve words, found 13"),
+    ("words 1 x", "expected a word, found 'x'"),
+    ("bytes 4", "expected bytes of two hexadecimal digits, found '4'"),
+    ("bytes 4G", "found '4G'"),
+    ("bytes", "expected 1 to 95 bytes"),
+    ("bytes" + " 00" * 96, "expected 1 to 95 bytes"),
+]
+
+ORDER_MISTAKES = [
+    ("begin\n", 1, "expected a line 'journal N' before the first call"),
+    ("table a rows 1\nbegin\n", 2, "expected a line 'journal N' before the first call"),
+    ("table a rows 1\nbytes 00\n", 2, "expected a line 'journal N' before the first call"),
+    (TABLES + "begin\ntable goats rows 1\n", 10, "expected a call"),
+    (TABLES + "begin\njournal 9\n", 10, "expected a call"),
+    (TABLES + "bytes 00\nbegin\n", 10, "expected 'bytes' or the end of the text"),
+    ("bytes 00\ntable a rows 1\n", 2, "expected 'bytes' or the end of the text"),
+]
+
+
+def all_mistakes():
+    """Triples of a text, the line of its mistake and a part of the message."""
+    before_journal, at_key = TABLES.rsplit("journal", 1)[0], 8
+    yield from SCHEMA_MISTAKES
+    for line, message in KEY_MISTAKES:
+        yield before_journal + line + "\njournal 8\n", at_key, message
+    for line, message in CALL_MISTAKES:
+        yield TABLES + "\n# calls\n" + line + "\ncommit\n", 11, message
+    yield from ORDER_MISTAKES
