@@ -28,10 +28,10 @@ counted() {
     return 1
 }
 
-# Installs Debian's cargo, rustc, gcc and libsqlite3-dev where one of them is missing.
+# Installs Debian's cargo, rustc, gcc, python3 and libsqlite3-dev where one of them is missing.
 install_packages() {
     local tool missing='' as_root=()
-    for tool in cargo rustc gcc; do
+    for tool in cargo rustc gcc python3; do
         command -v "$tool" >/dev/null || missing="$missing $tool"
     done
     [ -e /usr/include/sqlite3.h ] || missing="$missing libsqlite3-dev"
@@ -39,11 +39,11 @@ install_packages() {
     echo "test.sh: installing Debian's packages, missing are:$missing"
     [ "$(id -u)" -eq 0 ] || as_root=(sudo)
     "${as_root[@]}" apt-get update && "${as_root[@]}" env DEBIAN_FRONTEND=noninteractive \
-        apt-get install -y --no-install-recommends cargo rustc gcc libc6-dev libsqlite3-dev
+        apt-get install -y --no-install-recommends cargo rustc gcc libc6-dev python3 libsqlite3-dev
 }
 
 command -v rt >/dev/null || stop "rt is not on the PATH: the Rattle kit is needed"
-install_packages || stop "cargo, rustc, gcc and libsqlite3-dev are needed, and apt-get could not install them"
+install_packages || stop "cargo, rustc, gcc, python3 and libsqlite3-dev are needed, and apt-get could not install them"
 log=$(mktemp) || stop "no temporary file can be made"
 trap 'rm -f "$log"' EXIT
 
@@ -53,6 +53,8 @@ rt staticlib capi || stop "rt staticlib capi failed: the tests were not run"
 export CARGO_TARGET_DIR=$PWD/target/tests CARGO_HOME=$PWD/target/tests/home
 (cd tests && cargo build --release --offline --locked) || stop "the tests were not built"
 counted target/tests/release/hoofbook-tests || stop "the tests failed"
+counted examples/test_kit.sh || stop "the C example failed"
+counted python3 tools/test_tools.py || stop "the tests of the tools failed"
 
 [ "$failed" -eq 0 ] || stop "something failed"
 echo "$passed passed, $failed failed"

@@ -44,6 +44,18 @@ typedef struct {
     int64_t net;
 } hoofbook_answer;
 
+/* The answer of the orphan list: code, and how many orphans there are. Refused: code, 0. */
+typedef struct {
+    int64_t code;
+    int64_t count;
+} hoofbook_listed;
+
+/* An orphan: a row of the foreign key's child table that has no parent row. */
+typedef struct {
+    uint64_t foreign_key;
+    uint64_t row;
+} hoofbook_orphan;
+
 /* 0 where the schema is accepted, else 1 or 2. */
 int64_t hoofbook_check_schema(const uint8_t *schema, size_t schema_len);
 
@@ -56,6 +68,10 @@ int64_t hoofbook_make_fresh(const uint8_t *schema, size_t schema_len, int64_t *a
 /* Carries out a call of twelve words, or refuses it. */
 hoofbook_answer hoofbook_call(const uint8_t *schema, size_t schema_len, int64_t *area, size_t area_len,
                               const int64_t *call, size_t call_len);
+
+/* Lists all orphans, each once, in any order; records past them keep what they held. */
+hoofbook_listed hoofbook_list_orphans(const uint8_t *schema, size_t schema_len, const int64_t *area,
+                                      size_t area_len, hoofbook_orphan *list, size_t list_len);
 
 #ifdef __cplusplus
 }

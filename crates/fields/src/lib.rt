@@ -178,22 +178,6 @@ pub fn width(bytes: &[u8], k: usize) -> usize
     key_byte(bytes, k, 5)
 }
 
-// Child column i of foreign key k.
-pub fn child_column(bytes: &[u8], k: usize, i: usize) -> usize
-    requires { ⌜ (checkSchema (now bytes) ≡ SchemaAnswer.Accepted) × ((k < length (schemaOf (now bytes) .keys)) × (i < length (keyOf (schemaOf (now bytes)) k .childColumns))) ⌝ }
-    ensures { λ r. ⌜ (r ≡ getD (keyOf (schemaOf (now (bytes .entry))) k .childColumns) i 0) × (r < tableOf (schemaOf (now (bytes .entry))) (keyOf (schemaOf (now (bytes .entry))) k .child) .columns) ⌝ }
-{
-    key_byte(bytes, k, 6 + i)
-}
-
-// Parent column i of foreign key k.
-pub fn parent_column(bytes: &[u8], k: usize, i: usize) -> usize
-    requires { ⌜ (checkSchema (now bytes) ≡ SchemaAnswer.Accepted) × ((k < length (schemaOf (now bytes) .keys)) × (i < length (keyOf (schemaOf (now bytes)) k .childColumns))) ⌝ }
-    ensures { λ r. ⌜ (r ≡ getD (keyOf (schemaOf (now (bytes .entry))) k .parentColumns) i 0) × (r < tableOf (schemaOf (now (bytes .entry))) (keyOf (schemaOf (now (bytes .entry))) k .parent) .columns) ⌝ }
-{
-    key_byte(bytes, k, 10 + i)
-}
-
 // The four bytes from p on, and four zeros.
 fn columns_at(bytes: &[u8], p: usize) -> [usize; 8]
     requires { ⌜ p + 4 ≤ length (now bytes) ⌝ }

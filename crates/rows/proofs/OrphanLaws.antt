@@ -25,10 +25,6 @@ module _ (new : Row) (t : ℕ) (old : Row) (k : ForeignKey) where
   unfolding fires sameParentKey
   fires-rest h e = rw (e, eq-eqb (k .parent) t h)
 
-pub takes-is : (k : ForeignKey) (old : Row) {cs ps : List ℕ} {x y : Row} → cs ≡ k .childColumns → ps ≡ k .parentColumns → x ≡ y → live x && sameKey cs ps x old ≡ takes k old y
-unfolding takes mapsTo
-takes-is k old e f g = rw (e, f, g)
-
 -- ---- the columns are all that orphans depend on
 module _ (k : ForeignKey) {cs ps : List ℕ} (e : cs ≡ k .childColumns) (f : ps ≡ k .parentColumns) where
   serves-by : (x : Row) → serves (keyBy cs ps) x ≡ serves k x

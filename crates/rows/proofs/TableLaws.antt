@@ -152,7 +152,3 @@ module _ (b : List ℕ) (k n : ℕ) (cs ps : List ℕ) (h : KeyColumns b k n cs 
   -- in the rows of the parent table
   pub parent-in : {t : ℕ} {x : TableRows} → t ≡ keyOf (schemaOf b) k .parent → RowsOf b t x → Columns (x .width) n ps
   parent-in e r = rw (r .width-is, e) (h .parent-within)
-
-  -- in a row of the child table
-  pub child-in : {a : List ℤ} {j p w : ℕ} → PlacedAt b a (keyOf (schemaOf b) k .child) j p w → Columns w n cs
-  child-in r = rw (r .width-is) (h .child-within)

@@ -16,7 +16,7 @@ ghost use Rattle.rules.specs.Keys;
 ghost use Rattle.rules.specs.Change;
 ghost use Rattle.bridge.specs.Fit.{workOf};
 ghost use Rattle.bridge.specs.Ready.{Ready, rowIn};
-ghost use Rattle.rows.specs.Standing.{RowAt, Standing, rowsIn, RowsOf, PlacedAt};
+ghost use Rattle.rows.specs.Standing.{RowAt, Standing, rowsIn, RowsOf};
 ghost use Rattle.rows.specs.KeyColumns.{KeyColumns, keyBy, MaskWithin, maskBroken};
 use schema::SchemaAnswer;
 
@@ -346,25 +346,6 @@ pub fn fires(schema: &[u8], t: usize, old: [i64; 9], new: [i64; 9], k: usize) ->
     key_changes(old, new, n, ps)
 }
 
-// Whether row j of foreign key k's child table, at p, is live and has the old parent key.
-pub fn takes(
-    schema: &[u8],
-    area: &[i64],
-    k: usize,
-    j: usize,
-    p: usize,
-    w: usize,
-    old: &[i64; 9],
-    n: usize,
-    cs: &[usize; 8],
-    ps: &[usize; 8],
-) -> bool
-    requires { ⌜ PlacedAt (now schema) (now area) (keyOf (schemaOf (now schema)) k .child) j p w × KeyColumns (now schema) k n (now cs) (now ps) ⌝ }
-    ensures { λ x. ⌜ x ≡ Keys.takes (keyOf (schemaOf (now (schema .entry))) k) (now (old .entry)) (Rows.rowAt (keyOf (schemaOf (now (schema .entry))) k .child) j (workOf (schemaOf (now (schema .entry))) (now (area .entry)) .tabs)) ⌝ }
-{
-    has_key(area, p, w, old, n, cs, ps)
-}
-
 // ---- orphans
 
 // Whether one of the parent rows is live and has the key of a child row's image.
@@ -427,25 +408,6 @@ pub fn is_orphan_image(
         return false;
     }
     !is_served(schema, area, k, image, n, cs, ps)
-}
-
-// Whether row j of foreign key k's child table, at p, is an orphan.
-pub fn is_orphan_row(
-    schema: &[u8],
-    area: &[i64],
-    k: usize,
-    j: usize,
-    p: usize,
-    w: usize,
-    n: usize,
-    cs: [usize; 8],
-    ps: [usize; 8],
-) -> bool
-    requires { ⌜ PlacedAt (now schema) (now area) (keyOf (schemaOf (now schema)) k .child) j p w × KeyColumns (now schema) k n cs ps ⌝ }
-    ensures { λ x. ⌜ x ≡ Keys.orphan (keyOf (schemaOf (now (schema .entry))) k) (getD (workOf (schemaOf (now (schema .entry))) (now (area .entry)) .tabs) (keyOf (schemaOf (now (schema .entry))) k .parent) []) (Rows.rowAt (keyOf (schemaOf (now (schema .entry))) k .child) j (workOf (schemaOf (now (schema .entry))) (now (area .entry)) .tabs)) ⌝ }
-{
-    let image = words::image_at(area, p, w);
-    is_orphan_image(schema, area, k, image, n, cs, ps)
 }
 
 // 1 where the child row at p is an orphan, else 0.
