@@ -26,14 +26,28 @@ unfoldable pub signedText : ℤ → List ℕ
 signedText (pos n) = decimal n
 signedText (negsuc n) = 45 ∷ decimal (suc n)
 
--- `code,changed,net` and a newline
-unfoldable pub answerLine : ℕ → ℕ → ℤ → List ℕ
-answerLine code changed net = decimal code ++ (44 ∷ decimal changed) ++ (44 ∷ signedText net) ++ (10 ∷ [])
+abbrev pub comma : List ℕ
+comma = 44 ∷ []
 
--- `accepted,A,refused,B,rows,C` and a newline
+abbrev pub newline : List ℕ
+newline = 10 ∷ []
+
+-- `code,changed,net`
+unfoldable pub answerLine : ℕ → ℕ → ℤ → List ℕ
+answerLine code changed net = decimal code ++ comma ++ decimal changed ++ comma ++ signedText net ++ newline
+
+-- `accepted,`
+abbrev pub acceptedText : List ℕ
+acceptedText = 97 ∷ 99 ∷ 99 ∷ 101 ∷ 112 ∷ 116 ∷ 101 ∷ 100 ∷ 44 ∷ []
+
+-- `,refused,`
+abbrev pub refusedText : List ℕ
+refusedText = 44 ∷ 114 ∷ 101 ∷ 102 ∷ 117 ∷ 115 ∷ 101 ∷ 100 ∷ 44 ∷ []
+
+-- `,rows,`
+abbrev pub rowsText : List ℕ
+rowsText = 44 ∷ 114 ∷ 111 ∷ 119 ∷ 115 ∷ 44 ∷ []
+
+-- `accepted,A,refused,B,rows,C`
 unfoldable pub tallyLine : ℕ → ℕ → ℕ → List ℕ
-tallyLine accepted refused rows =
-    (97 ∷ 99 ∷ 99 ∷ 101 ∷ 112 ∷ 116 ∷ 101 ∷ 100 ∷ 44 ∷ decimal accepted)
-    ++ (44 ∷ 114 ∷ 101 ∷ 102 ∷ 117 ∷ 115 ∷ 101 ∷ 100 ∷ 44 ∷ decimal refused)
-    ++ (44 ∷ 114 ∷ 111 ∷ 119 ∷ 115 ∷ 44 ∷ decimal rows)
-    ++ (10 ∷ [])
+tallyLine accepted refused rows = acceptedText ++ decimal accepted ++ refusedText ++ decimal refused ++ rowsText ++ decimal rows ++ newline

@@ -19,7 +19,7 @@ fn magnitude(n: i64) -> u64
 // Writes a text at `at`; answers where it ends.
 pub fn put_text(out: &mut [u8], at: usize, text: &[u8]) -> usize
     requires { ⌜ at + length (now text) ≤ length (now out) ⌝ }
-    ensures { λ r. ⌜ (r, now (out .exit)) ≡ put (now (text .entry)) (at, now (out .entry)) ⌝ }
+    ensures { λ r. ⌜ ((r, now (out .exit)) ≡ put (now (text .entry)) (at, now (out .entry))) × (r ≡ at + length (now (text .entry))) ⌝ }
 {
     let n = bytes::copy(text, &mut out[at..]);
     at + n
