@@ -1,4 +1,11 @@
-// Calls of a piece of input, run one after the other: each is answered by a line and counted in the tally.
+// Calls in bytes, run one after the other: each answer is written as a line and counted in the tally.
+ghost use mathlib.Core.Path.{_≡_};
+ghost use Prim.Native.Nat.{_+_, _*_, _≤_};
+ghost use lib.ListN.{length};
+ghost use Rattle.rules.specs.Refusals.{shown};
+ghost use Rattle.rules.specs.Engine.{callOn};
+ghost use Rattle.lines.specs.Text.{put};
+ghost use Rattle.call_lines.specs.Runs.{lineOf, countedIn, callAt, callCount, runAt, ranCall, ran};
 use rules::Answer;
 use run_tally::Tally;
 
@@ -8,24 +15,28 @@ pub struct Progress {
     pub used: usize,
 }
 
+// ---- answers
+
 // An answer's code, rows changed and net.
-struct Shown {
+struct Figures {
     code: u64,
     changed: u64,
     net: i64,
 }
 
-fn shown(answer: Answer) -> Shown {
+fn figures_of(answer: Answer) -> Figures
+    ensures { λ r. ⌜ (r .code ≡ shown answer .0) × (r .changed ≡ shown answer .1) × (r .net ≡ shown answer .2) ⌝ }
+{
     match answer {
-        Answer::Done(changed, net) => Shown {
+        Answer::Done(changed, net) => Figures {
             code: 0,
             changed: changed as u64,
             net: net,
         },
         Answer::Refused(refusal) => {
-            let number = engine::refusal_number(refusal);
-            Shown {
-                code: words::nat_of(number) as u64,
+            let number = words::nat_of(answers::refusal_number(refusal));
+            Figures {
+                code: number as u64,
                 changed: 0,
                 net: 0,
             }
@@ -33,34 +44,43 @@ fn shown(answer: Answer) -> Shown {
     }
 }
 
-// Writes the line of an answer and counts it.
-pub fn report(out: &mut [u8], progress: Progress, answer: Answer) -> Progress {
-    let shown = shown(answer);
+// Writes the line of an answer, and counts it.
+pub fn report(out: &mut [u8], progress: Progress, answer: Answer) -> Progress
+    requires { ⌜ progress .used + 64 ≤ length (now out) ⌝ }
+    ensures { λ r. ⌜ (r .tally ≡ countedIn (progress .tally) answer) × ((r .used, now (out .exit)) ≡ put (lineOf answer) (progress .used, now (out .entry))) × (r .used ≤ progress .used + 64) ⌝ }
+{
+    let figures = figures_of(answer);
     let tally = progress.tally;
     let used = lines::put_answer_line(
         out,
         progress.used,
-        shown.code,
-        shown.changed,
-        shown.net,
+        figures.code,
+        figures.changed,
+        figures.net,
     );
     Progress {
-        tally: run_tally::counted(tally, shown.code, shown.changed),
+        tally: run_tally::counted(tally, figures.code, figures.changed),
         used: used,
     }
 }
 
-// Carries out the call whose bytes begin at `at`; one that is cut short is no call of twelve words.
-fn call_at(schema: &[u8], area: &mut [i64], bytes: &[u8], at: usize) -> Answer {
+// ---- calls
+
+// Carries out call i of the bytes; one that is cut short is handed over as no words.
+fn call_at(schema: &[u8], area: &mut [i64], bytes: &[u8], i: usize) -> Answer
+    requires { ⌜ i * 96 ≤ length (now bytes) ⌝ }
+    ensures { λ r. ⌜ (r, now (area .exit)) ≡ callOn (now (schema .entry)) (callAt (now (bytes .entry)) i) (now (area .entry)) ⌝ }
+{
+    let at = i * 96;
     if 96 <= bytes.len() - at {
         let words = decoding::words_at(bytes, at);
         return engine::call(schema, area, &words);
     }
-    let words = [0i64; 12];
-    engine::call(schema, area, &words[0..0])
+    let none = [0i64; 1];
+    engine::call(schema, area, &none[0..0])
 }
 
-// Call i of the bytes: carried out, its line written, counted.
+// Carries out call i of the bytes, writes its line, and counts it.
 fn run_call(
     schema: &[u8],
     area: &mut [i64],
@@ -68,13 +88,18 @@ fn run_call(
     i: usize,
     out: &mut [u8],
     progress: Progress,
-) -> Progress {
-    let answer = call_at(schema, area, bytes, i * 96);
+) -> Progress
+    requires { ⌜ (i * 96 ≤ length (now bytes)) × (progress .used + 64 ≤ length (now out)) ⌝ }
+    ensures { λ r. ⌜ (runAt (now (area .exit)) r (now (out .exit)) ≡ ranCall (now (schema .entry)) (callAt (now (bytes .entry)) i) (runAt (now (area .entry)) progress (now (out .entry)))) × (r .used ≤ progress .used + 64) ⌝ }
+{
+    let answer = call_at(schema, area, bytes, i);
     report(out, progress, answer)
 }
 
-// How many calls the bytes are: 96 bytes each, the last may be cut short.
-fn call_count(length: usize) -> usize {
+// How many calls so many bytes are.
+fn call_count(length: usize) -> usize
+    ensures { λ r. ⌜ r ≡ callCount length ⌝ }
+{
     let calls = length / 96;
     if length % 96 == 0 {
         return calls;
@@ -82,14 +107,17 @@ fn call_count(length: usize) -> usize {
     calls + 1
 }
 
-// Runs the calls that the bytes are.
+// Runs the calls that the bytes are, and writes their lines.
 pub fn run_calls(
     schema: &[u8],
     area: &mut [i64],
     bytes: &[u8],
     out: &mut [u8],
     progress: Progress,
-) -> Progress {
+) -> Progress
+    requires { ⌜ progress .used + 64 * callCount (length (now bytes)) ≤ length (now out) ⌝ }
+    ensures { λ r. ⌜ (runAt (now (area .exit)) r (now (out .exit)) ≡ ran (now (schema .entry)) (now (bytes .entry)) (runAt (now (area .entry)) progress (now (out .entry)))) × (r .used ≤ length (now (out .entry))) ⌝ }
+{
     let n = call_count(bytes.len());
     let mut done = progress;
     let mut i = 0;

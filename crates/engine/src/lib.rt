@@ -10,7 +10,6 @@ ghost use Rattle.schema.specs.Check.{checkSchema};
 ghost use Rattle.rules.specs.Rows;
 ghost use Rattle.rules.specs.Values.{natOf};
 ghost use Rattle.rules.specs.Calls;
-ghost use Rattle.rules.specs.Refusals.{number};
 ghost use Rattle.rules.specs.Step.{act};
 ghost use Rattle.rules.specs.Area.{view, onWords, areaStep};
 ghost use Rattle.rules.specs.Engine.{makeFresh, callOn};
@@ -161,32 +160,5 @@ pub fn call(schema: &[u8], area: &mut [i64], call: &[i64]) -> Answer
         SchemaAnswer::Malformed => Answer::Refused(Refusal::SchemaMalformed),
         SchemaAnswer::Unmatched => Answer::Refused(Refusal::SchemaUnmatched),
         SchemaAnswer::Accepted => call_area(schema, area, call),
-    }
-}
-
-// ---- answers as words
-
-// The paper's number of a refusal.
-pub fn refusal_number(refusal: Refusal) -> i64
-    ensures { λ x. ⌜ x ≡ pos (number refusal) ⌝ }
-{
-    match refusal {
-        Refusal::SchemaMalformed => 1,
-        Refusal::SchemaUnmatched => 2,
-        Refusal::WrongLength => 3,
-        Refusal::BadCall => 4,
-        Refusal::Damaged => 10,
-        Refusal::RowState => 11,
-        Refusal::LevelState => 12,
-        Refusal::LevelsFull => 13,
-        Refusal::TooDeep => 14,
-        Refusal::JournalFull => 15,
-        Refusal::NotNull => 16,
-        Refusal::NotUnique => 17,
-        Refusal::Restricted => 18,
-        Refusal::KeptOutOfRange => 19,
-        Refusal::OrphansLeft => 20,
-        Refusal::CommitWithOrphans => 21,
-        Refusal::ListTooShort => 22,
     }
 }

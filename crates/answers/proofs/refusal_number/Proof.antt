@@ -1,8 +1,8 @@
 use mathlib.Core.Path.{refl}
 use borrow.Author.Needs.{needs}
 use Rattle.rules.specs.Refusals.{number}
-use Rattle.engine.proofs.refusal_number.Statement.{statement}
-use Rattle.engine.proofs.refusal_number.Tie as tie
+use Rattle.answers.proofs.refusal_number.Statement.{statement}
+use Rattle.answers.proofs.refusal_number.Tie as tie
 
 enum-told : tie.Need-enum-told
 enum-told c = search needs
