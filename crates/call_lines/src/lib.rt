@@ -1,18 +1,41 @@
 // Calls in bytes, run one after the other: each answer is written as a line and counted in the tally.
 ghost use mathlib.Core.Path.{_≡_};
-ghost use Prim.Native.Nat.{_+_, _*_, _≤_};
+ghost use Prim.Native.Nat.{_+_, _*_, _≤_, min};
 ghost use lib.ListN.{length};
 ghost use Rattle.rules.specs.Refusals.{shown};
 ghost use Rattle.rules.specs.Engine.{callOn};
 ghost use Rattle.lines.specs.Text.{put};
-ghost use Rattle.call_lines.specs.Runs.{lineOf, countedIn, callAt, callCount, runAt, ranCall, ran};
+ghost use Rattle.call_lines.specs.Runs.{areaWords, lineOf, countedIn, callAt, callCount, runAt, ranCall, ran};
 use rules::Answer;
 use run_tally::Tally;
+use schema::SchemaAnswer;
 
 // How far a run has come: its tally, and how many bytes of the output buffer hold text.
 pub struct Progress {
     pub tally: Tally,
     pub used: usize,
+}
+
+// ---- the area
+
+// How many of `room` words the area takes: as many as an accepted schema needs, or all if there are fewer; none for another schema.
+pub fn area_words(schema: &[u8], room: usize) -> usize
+    ensures { λ r. ⌜ (r ≡ areaWords (now (schema .entry)) room) × (r ≤ room) ⌝ }
+{
+    match schema_check::check_schema(schema) {
+        SchemaAnswer::Malformed => 0,
+        SchemaAnswer::Unmatched => 0,
+        SchemaAnswer::Accepted => least(fields::area_length(schema), room),
+    }
+}
+
+fn least(a: usize, b: usize) -> usize
+    ensures { λ r. ⌜ r ≡ min a b ⌝ }
+{
+    if a < b {
+        return a;
+    }
+    b
 }
 
 // ---- answers
