@@ -71,6 +71,11 @@ pub count-below : (n i : ℕ) → i < callCount n → i * 96 ≤ n
 unfolding callCount
 count-below n i h = omega (arith, h)
 
+-- fewer bytes are no more calls
+pub count-rises : (m n : ℕ) → m ≤ n → callCount m ≤ callCount n
+unfolding callCount
+count-rises m n h = omega (arith, h)
+
 -- ---- a run
 
 -- one call: its answer, the area, the tally and the text

@@ -49,9 +49,11 @@ returns c =
     let net = c .before .before .before .before .before .before .before .put-signed .ensures in
     let end = c .before .before .put-text3 .ensures in
     let a = c .before .before .before .before .before .before .before .before .before .before .before .before .before .before .before .before .before .before .before .before .before .before .before .before .before .before .before .before .args in
-    let held : toZ w64 (ofZ w64 (a .net)) ≡ a .net = toZ-ofZ (c .before .before .before .before .before .before .before .before .before .before .before .before .before .before .before .before .before .before .before .before .before .before .before .before .before .before .before .before .fits .net) in
-    (then _ _ _ (then _ _ _ (then _ _ _ (then _ _ _ (then _ _ _ (code .0) (comma .0)) (changed .0)) (comma2 .0)) (net .0)) (end .0)
-    ∙ ap (λ z. put (answerLine (a .code) (a .changed) z) (a .at, a .out .now)) held, omega (arith, code .1, comma .1, changed .1, comma2 .1, net .1, end .1))
+    let held : toZ w64 (ofZ w64 (a .net)) ≡ a .net = toZ-ofZ (c .before .before .before .before .before .before .before .before .before .before .before .before .before .before .before .before .before .before .before .before .before .before .before .before .before .before .before .before .fits .net) in (
+      then _ _ _ (then _ _ _ (then _ _ _ (then _ _ _ (then _ _ _ (code .0) (comma .0)) (changed .0)) (comma2 .0)) (net .0)) (end .0)
+          ∙ ap (λ z. put (answerLine (a .code) (a .changed) z) (a .at, a .out .now)) held,
+      omega (arith, code .1, comma .1, changed .1, comma2 .1, net .1, end .1),
+    )
 
 pub put-answer-line-spec : {M : Type 1} → statement M
 put-answer-line-spec =
