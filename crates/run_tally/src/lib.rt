@@ -12,11 +12,10 @@ pub struct Tally {
 pub fn add_capped(a: u64, b: u64) -> u64
     ensures { λ r. ⌜ r ≡ capped a b ⌝ }
 {
-    if 18446744073709551615 - a < b {
-        18446744073709551615
-    } else {
-        a + b
+    if u64::MAX - a < b {
+        return u64::MAX;
     }
+    a + b
 }
 
 // The tally with one answer more.

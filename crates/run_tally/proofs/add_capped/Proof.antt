@@ -18,4 +18,4 @@ unfolding capped
 returns-2 c = search needs
 
 pub add-capped-spec : {M : Type 1} → statement M
-add-capped-spec = tie.close (tie.spec sub-if1 add-result returns returns-2)
+add-capped-spec = tie.close (tie.spec sub-if1 returns add-result returns-2)
