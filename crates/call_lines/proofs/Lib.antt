@@ -1,2 +1,3 @@
--- What the proofs of several functions use.
+-- What the proofs of several functions use; the theorem on pieces of the input.
 pub mod RunLaws
+pub mod Pieces

@@ -97,7 +97,7 @@ module _ (schema bytes : List ℕ) where
   unfolding runFrom
   run-none i r = refl
 
-  run-more : (k i : ℕ) (r : Run) → runFrom (suc k) i r ≡ runFrom k (suc i) (ranCall schema (callAt bytes i) r)
+  pub run-more : (k i : ℕ) (r : Run) → runFrom (suc k) i r ≡ runFrom k (suc i) (ranCall schema (callAt bytes i) r)
   unfolding runFrom
   run-more k i r = refl
 
