@@ -26,7 +26,8 @@ use Rattle.run_tally.specs.declared.Tally.{Tally}
 use Rattle.run_tally.specs.Tallies.{tallied}
 use Rattle.lines.specs.Text.{put, answerLine}
 use Rattle.lines.proofs.TextLaws.{then}
-use Rattle.call_lines.specs.Runs.{wordsFor, areaWords, lineOf, countedIn, callAt, callCount, callsOf, linesOf, countedAll, Run, ranCall, ran}
+use Rattle.call_lines.specs.declared.Progress.{Progress}
+use Rattle.call_lines.specs.Runs.{wordsFor, areaWords, lineOf, countedIn, callAt, callCount, callsOf, linesOf, countedAll, Run, runAt, ranCall, ran, after}
 
 -- ---- the area
 
@@ -134,3 +135,8 @@ module _ (schema bytes : List ℕ) where
   pub run-all : (r : Run) → runFrom (callCount (length bytes)) 0 r ≡ ran schema bytes r
   unfolding ran callsOf ranAll
   run-all r = run-from (callCount (length bytes)) 0 r
+
+-- of a run, the area and the tally
+pub ran-after : (schema bytes : List ℕ) (area : List ℤ) (p : Progress) (out : List ℕ) {next : Run} → next ≡ ran schema bytes (runAt area p out) → (next .area, next .tally) ≡ after schema bytes area (p .tally)
+unfolding ran after
+ran-after schema bytes area p out e = ap (λ r. (r .area, r .tally)) e

@@ -90,3 +90,9 @@ unfoldable pub ran : List ℕ → List ℕ → Run → Run
 ran schema bytes r =
     let done : List Logged × List ℤ = runOn schema (callsOf bytes) (r .area) in
     record { area = done .1; tally = countedAll (r .tally) (done .0); text = put (linesOf (done .0)) (r .text) }
+
+-- the area and the tally after them
+unfoldable pub after : List ℕ → List ℕ → List ℤ → Tally → List ℤ × Tally
+after schema bytes area t =
+    let done : List Logged × List ℤ = runOn schema (callsOf bytes) area in
+    (done .1, countedAll t (done .0))

@@ -1,17 +1,18 @@
 // hoofrun: reads a schema and calls from standard input, runs the calls on a fresh area, prints a line for each, and the tally.
+ghost use mathlib.Core.Path.{_≡_};
 ghost use Prim.Native.Nat.{_*_, _≤_};
-ghost use lib.ListN.{length};
-ghost use Rattle.call_lines.specs.Runs.{callCount};
+ghost use lib.ListN.{length, take};
+ghost use Rattle.call_lines.specs.Runs.{callCount, after};
 use call_lines::Progress;
 use libc::STDIN_FILENO;
 use libc::STDOUT_FILENO;
 use rules::Answer;
 use run_tally::Tally;
 
-// The tally after a piece of the input, and whether more may follow.
+// A piece of the input: how many bytes were read, and the tally after it.
 struct Piece {
+    read: usize,
     tally: Tally,
-    more: bool,
 }
 
 // Reads the schema: as many bytes as its whole-length field says, or all there are if fewer.
@@ -46,8 +47,8 @@ fn run_piece(
     tally: Tally,
 ) -> Piece
     requires { ⌜ 64 * callCount (length (now input)) ≤ length (now out) ⌝ }
+    ensures { λ r. ⌜ (now (area .exit), r .tally) ≡ after (now (schema .entry)) (take (r .read) (now (input .exit))) (now (area .entry)) tally ⌝ }
 {
-    let full = input.len();
     let n = io::read_full(STDIN_FILENO, input);
     let begun = Progress {
         tally: tally,
@@ -58,12 +59,12 @@ fn run_piece(
     let counted = progress.tally;
     print(out, used);
     Piece {
+        read: n,
         tally: counted,
-        more: n == full,
     }
 }
 
-// Runs the calls piece by piece until the input ends.
+// Runs the calls piece by piece until the input ends: at a piece that is not full.
 fn run_input(
     schema: &[u8],
     area: &mut [i64],
@@ -73,12 +74,13 @@ fn run_input(
 ) -> Tally
     requires { ⌜ 64 * callCount (length (now input)) ≤ length (now out) ⌝ }
 {
+    let full = input.len();
     let mut piece = Piece {
+        read: full,
         tally: tally,
-        more: true,
     };
     let mut left = u64::MAX;
-    while left > 0 && piece.more {
+    while left > 0 && piece.read == full {
         let counted = piece.tally;
         piece = run_piece(schema, area, input, out, counted);
         left -= 1;

@@ -21,12 +21,18 @@ same-length c = search needs
 
 returns : tie.Need-returns
 returns c =
-    let figures = c .before .before .before .before .before .before .before .figures-of .ensures in
-    let line = c .before .before .before .put-answer-line .ensures in
-    let a = c .before .before .before .before .before .before .before .before .before .args in
-    let held : toZ w64 (ofZ w64 (c .before .before .before .before .before .before .before .figures-of .result .net)) ≡ c .before .before .before .before .before .before .before .figures-of .result .net = back _ (c .before .before .before .before .struct-told .given .1 .1 .0 .1) in
-    let count = c .counted .ensures ∙ count-told (a .progress .tally) (a .answer) (figures .0) (figures .1) in
-    (count, line .0 ∙ line-told (a .progress .used, a .out .now) (a .answer) (figures .0) (figures .1) (held ∙ figures .2), line .1)
+    let end = c in
+    let line = end .before .before .before in
+    let sizes = line .before in
+    let told = sizes .before .before .before in
+    let start = told .before .before in
+    let a = start .args in
+    let shown = told .figures-of .result in
+    let is = told .figures-of .ensures in
+    let held : toZ w64 (ofZ w64 (shown .net)) ≡ shown .net = back _ (sizes .struct-told .given .1 .1 .0 .1) in
+    let count = end .counted .ensures ∙ count-told (a .progress .tally) (a .answer) (is .0) (is .1) in
+    let text = line .put-answer-line .ensures in
+    (count, text .0 ∙ line-told (a .progress .used, a .out .now) (a .answer) (is .0) (is .1) (held ∙ is .2), text .1)
 
 pub report-spec : {M : Type 1} → statement M
 report-spec =

@@ -24,17 +24,25 @@ call-count-requires c κs = search needs
 
 loop-holds : tie.Need-loop-holds Inv-loop μ-loop
 loop-holds c =
-    let a = c .before .before .before .before .args in
-    let all : c .call-count .result - 0 ≡ callCount (length (a .bytes .now)) = omega (arith, c .call-count .ensures) in
+    let counted = c in
+    let start = counted .before .before .before .before in
+    let a = start .args in
+    let s = a .schema .now in
+    let bytes = a .bytes .now in
     let r = runAt (a .area .now) (a .progress) (a .out .now) in
-    (ap (λ m. runFrom (a .schema .now) (a .bytes .now) m 0 r) all ∙ run-all (a .schema .now) (a .bytes .now) r, omega arith, omega arith, refl, refl)
+    let all : counted .call-count .result - 0 ≡ callCount (length bytes) = omega (arith, counted .call-count .ensures) in
+    (ap (λ m. runFrom s bytes m 0 r) all ∙ run-all s bytes r, omega arith, omega arith, refl, refl)
 
 run-call-requires : tie.Need-run-call-requires Inv-loop μ-loop
 run-call-requires c κs =
-    let a = c .before .before .before .before .before .before .before .before .args in
-    let l = c .before .before .before .loop in
-    let below : l .i < callCount (length (a .bytes .now)) = omega (arith, c .before .before .loop-test .taken, c .before .before .before .before .call-count .ensures) in
-    (count-below (length (a .bytes .now)) (l .i) below, omega (arith, below, l .inv .2, l .inv .4))
+    let test = c .before .before in
+    let at-loop = test .before in
+    let counted = at-loop .before in
+    let start = counted .before .before .before .before in
+    let bytes = start .args .bytes .now in
+    let l = at-loop .loop in
+    let below : l .i < callCount (length bytes) = omega (arith, test .loop-test .taken, counted .call-count .ensures) in
+    (count-below (length bytes) (l .i) below, omega (arith, below, l .inv .2, l .inv .4))
 
 add-i : tie.Need-add-i Inv-loop μ-loop
 add-i c = search needs
@@ -44,12 +52,18 @@ loop-less c = search needs
 
 loop-again : tie.Need-loop-again Inv-loop μ-loop
 loop-again c =
-    let a = c .before .before .before .before .before .before .before .before .before .before .before .before .args in
-    let l = c .before .before .before .before .before .before .before .loop in
-    let told = c .before .before .before .run-call .ensures in
+    let ran-it = c .before .before .before in
+    let test = ran-it .before .before .before in
+    let at-loop = test .before in
+    let counted = at-loop .before in
+    let start = counted .before .before .before .before in
+    let a = start .args in
+    let l = at-loop .loop in
     let r = runAt (l .area) (l .done) (l .out) in
-    let step = run-step (a .schema .now) (a .bytes .now) (c .before .before .before .before .before .before .before .before .call-count .result) (l .i) r (c .before .before .before .before .before .before .loop-test .taken) (told .0) in
-    (step ∙ l .inv .0, omega (arith, c .before .before .before .before .before .before .loop-test .taken), omega (arith, told .1, l .inv .2), search needs, search needs)
+    let inside = test .loop-test .taken in
+    let told = ran-it .run-call .ensures in
+    let step = run-step (a .schema .now) (a .bytes .now) (counted .call-count .result) (l .i) r inside (told .0) in
+    (step ∙ l .inv .0, omega (arith, inside), omega (arith, told .1, l .inv .2), search needs, search needs)
 
 same-length : tie.Need-same-length Inv-loop μ-loop
 same-length c = search needs
@@ -59,11 +73,17 @@ same-length-2 c = search needs
 
 returns : tie.Need-returns Inv-loop μ-loop
 returns c =
-    let a = c .before .before .before .before .before .before .args in
-    let l = c .before .loop in
-    let none : c .before .before .call-count .result - l .i ≡ 0 = omega (arith, c .loop-test .left) in
+    let test = c in
+    let at-loop = test .before in
+    let counted = at-loop .before in
+    let start = counted .before .before .before .before in
+    let s = start .args .schema .now in
+    let bytes = start .args .bytes .now in
+    let l = at-loop .loop in
     let r = runAt (l .area) (l .done) (l .out) in
-    (sym (run-none (a .schema .now) (a .bytes .now) (l .i) r) ∙ ap (λ m. runFrom (a .schema .now) (a .bytes .now) m (l .i) r) (sym none) ∙ l .inv .0, omega (arith, l .inv .1, l .inv .2, c .before .before .call-count .ensures))
+    let none : counted .call-count .result - l .i ≡ 0 = omega (arith, test .loop-test .left) in
+    let rest = ap (λ m. runFrom s bytes m (l .i) r) none ∙ run-none s bytes (l .i) r in
+    (sym rest ∙ l .inv .0, omega (arith, l .inv .1, l .inv .2, counted .call-count .ensures))
 
 pub run-calls-spec : {M : Type 1} → statement M
 run-calls-spec =

@@ -89,18 +89,30 @@ signed-at-requires-12 c κs = search needs
 returns : tie.Need-returns
 unfolding wordsAt
 returns c =
-    both (c .before .before .before .before .before .before .before .before .before .before .before .signed-at .ok) (c .before .before .before .before .before .before .before .before .before .before .before .signed-at .ensures)
-    (both (c .before .before .before .before .before .before .before .before .before .before .signed-at2 .ok) (c .before .before .before .before .before .before .before .before .before .before .signed-at2 .ensures)
-    (both (c .before .before .before .before .before .before .before .before .before .signed-at3 .ok) (c .before .before .before .before .before .before .before .before .before .signed-at3 .ensures)
-    (both (c .before .before .before .before .before .before .before .before .signed-at4 .ok) (c .before .before .before .before .before .before .before .before .signed-at4 .ensures)
-    (both (c .before .before .before .before .before .before .before .signed-at5 .ok) (c .before .before .before .before .before .before .before .signed-at5 .ensures)
-    (both (c .before .before .before .before .before .before .signed-at6 .ok) (c .before .before .before .before .before .before .signed-at6 .ensures)
-    (both (c .before .before .before .before .before .signed-at7 .ok) (c .before .before .before .before .before .signed-at7 .ensures)
-    (both (c .before .before .before .before .signed-at8 .ok) (c .before .before .before .before .signed-at8 .ensures)
-    (both (c .before .before .before .signed-at9 .ok) (c .before .before .before .signed-at9 .ensures)
-    (both (c .before .before .signed-at10 .ok) (c .before .before .signed-at10 .ensures)
-    (both (c .before .signed-at11 .ok) (c .before .signed-at11 .ensures)
-    (both (c .signed-at12 .ok) (c .signed-at12 .ensures) refl)))))))))))
+    let w11 = c in
+    let w10 = w11 .before in
+    let w9 = w10 .before in
+    let w8 = w9 .before in
+    let w7 = w8 .before in
+    let w6 = w7 .before in
+    let w5 = w6 .before in
+    let w4 = w5 .before in
+    let w3 = w4 .before in
+    let w2 = w3 .before in
+    let w1 = w2 .before in
+    let w0 = w1 .before in
+    both (w0 .signed-at .ok) (w0 .signed-at .ensures)
+    (both (w1 .signed-at2 .ok) (w1 .signed-at2 .ensures)
+    (both (w2 .signed-at3 .ok) (w2 .signed-at3 .ensures)
+    (both (w3 .signed-at4 .ok) (w3 .signed-at4 .ensures)
+    (both (w4 .signed-at5 .ok) (w4 .signed-at5 .ensures)
+    (both (w5 .signed-at6 .ok) (w5 .signed-at6 .ensures)
+    (both (w6 .signed-at7 .ok) (w6 .signed-at7 .ensures)
+    (both (w7 .signed-at8 .ok) (w7 .signed-at8 .ensures)
+    (both (w8 .signed-at9 .ok) (w8 .signed-at9 .ensures)
+    (both (w9 .signed-at10 .ok) (w9 .signed-at10 .ensures)
+    (both (w10 .signed-at11 .ok) (w10 .signed-at11 .ensures)
+    (both (w11 .signed-at12 .ok) (w11 .signed-at12 .ensures) refl)))))))))))
 
 pub words-at-spec : {M : Type 1} → statement M
 words-at-spec =

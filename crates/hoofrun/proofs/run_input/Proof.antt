@@ -7,19 +7,21 @@ use Rattle.hoofrun.proofs.run_input.Statement.{statement}
 use Rattle.hoofrun.proofs.run_input.Tie as tie
 
 abbrev Inv-loop : tie.InvT-loop
-Inv-loop schema area₀ input₀ out₀ piece₀ left₀ area input out piece left =
+Inv-loop schema area₀ input₀ out₀ full piece₀ left₀ area input out piece left =
     (length area ≡ length area₀) × (length input ≡ length input₀) × (length out ≡ length out₀)
 
 abbrev μ-loop : tie.MeasureT-loop
-μ-loop schema area₀ input₀ out₀ piece₀ left₀ area input out piece left = left
+μ-loop schema area₀ input₀ out₀ full piece₀ left₀ area input out piece left = left
 
 loop-holds : tie.Need-loop-holds Inv-loop μ-loop
 loop-holds c = (refl, refl, refl)
 
 run-piece-requires : tie.Need-run-piece-requires Inv-loop μ-loop
 run-piece-requires c κs =
-    let l = c .before .before .before .before .before .before .loop in
-    let few = count-rises (length (l .input)) (length (c .before .before .before .before .before .before .before .before .before .before .args .input .now)) (omega (arith, l .inv .1)) in
+    let at-loop = c .before .before .before .before .before .before .before in
+    let start = at-loop .before .before .before .before in
+    let l = at-loop .loop in
+    let few = count-rises (length (l .input)) (length (start .args .input .now)) (omega (arith, l .inv .1)) in
     omega (arith, few, l .inv .2)
 
 sub-left : tie.Need-sub-left Inv-loop μ-loop

@@ -42,18 +42,23 @@ same-length c = search needs
 returns : tie.Need-returns
 unfolding answerLine
 returns c =
-    let code = c .before .before .before .before .before .before .before .before .before .before .before .before .before .before .before .before .before .before .before .before .before .before .before .before .before .put-decimal .ensures in
-    let comma = c .before .before .before .before .before .before .before .before .before .before .before .before .before .before .before .before .before .before .before .before .put-text .ensures in
-    let changed = c .before .before .before .before .before .before .before .before .before .before .before .before .before .before .before .before .put-decimal2 .ensures in
-    let comma2 = c .before .before .before .before .before .before .before .before .before .before .before .put-text2 .ensures in
-    let net = c .before .before .before .before .before .before .before .put-signed .ensures in
-    let end = c .before .before .put-text3 .ensures in
-    let a = c .before .before .before .before .before .before .before .before .before .before .before .before .before .before .before .before .before .before .before .before .before .before .before .before .before .before .before .before .args in
-    let held : toZ w64 (ofZ w64 (a .net)) ≡ a .net = toZ-ofZ (c .before .before .before .before .before .before .before .before .before .before .before .before .before .before .before .before .before .before .before .before .before .before .before .before .before .before .before .before .fits .net) in (
-      then _ _ _ (then _ _ _ (then _ _ _ (then _ _ _ (then _ _ _ (code .0) (comma .0)) (changed .0)) (comma2 .0)) (net .0)) (end .0)
-          ∙ ap (λ z. put (answerLine (a .code) (a .changed) z) (a .at, a .out .now)) held,
-      omega (arith, code .1, comma .1, changed .1, comma2 .1, net .1, end .1),
-    )
+    let end = c .before .before in
+    let net = end .before .before .before .before .before in
+    let comma2 = net .before .before .before .before in
+    let changed = comma2 .before .before .before .before .before in
+    let comma = changed .before .before .before .before in
+    let code = comma .before .before .before .before .before in
+    let start = code .before .before .before in
+    let a = start .args in
+    let held : toZ w64 (ofZ w64 (a .net)) ≡ a .net = toZ-ofZ (start .fits .net) in
+    let to-code = code .put-decimal .ensures in
+    let to-comma = comma .put-text .ensures in
+    let to-changed = changed .put-decimal2 .ensures in
+    let to-comma2 = comma2 .put-text2 .ensures in
+    let to-net = net .put-signed .ensures in
+    let to-end = end .put-text3 .ensures in
+    let text = then _ _ _ (then _ _ _ (then _ _ _ (then _ _ _ (then _ _ _ (to-code .0) (to-comma .0)) (to-changed .0)) (to-comma2 .0)) (to-net .0)) (to-end .0) in
+    (text ∙ ap (λ z. put (answerLine (a .code) (a .changed) z) (a .at, a .out .now)) held, omega (arith, to-code .1, to-comma .1, to-changed .1, to-comma2 .1, to-net .1, to-end .1))
 
 pub put-answer-line-spec : {M : Type 1} → statement M
 put-answer-line-spec =

@@ -22,8 +22,10 @@ part-put-text-end c = search needs
 
 put-text-requires : tie.Need-put-text-requires
 put-text-requires c κs =
-    let told = c .before .before .before .decimal in
-    let few : told .result ≤ 20 = at-most-20 (told .result) (c .before .before .before .before .before .before .args .n) (c .before .before .before .before .before .before .fits .n .fits) (told .ensures .1 .0) in
+    let spelt = c .before .before .before in
+    let start = spelt .before .before .before in
+    let k = spelt .decimal .result in
+    let few : k ≤ 20 = at-most-20 k (start .args .n) (start .fits .n .fits) (spelt .decimal .ensures .1 .0) in
     simp length-take (omega (arith, few))
 
 same-length : tie.Need-same-length
@@ -31,14 +33,18 @@ same-length c = search needs
 
 returns : tie.Need-returns
 returns c =
-    let told = c .before .before .before .before .before .before .decimal in
-    let said = c .before .before .put-text .ensures in
-    let a = c .before .before .before .before .before .before .before .before .before .args in
-    let fewest = told .ensures .1 .0 in
-    let few : told .result ≤ 20 = at-most-20 (told .result) (a .n) (c .before .before .before .before .before .before .before .before .before .fits .n .fits) fewest in
-    let all : told .result - 0 ≡ told .result = omega arith in
-    let text : take (told .result - 0) (told .last .1 .0) ≡ decimal (a .n) = ap (λ m. take m (told .last .1 .0)) all ∙ told .ensures .1 .1 ∙ decimal-is (told .result) (a .n) fewest in
-    (said .0 ∙ ap (λ t. put t (a .at, a .out .now)) text, rw (said .1) (simp length-take (omega (arith, few))))
+    let put-it = c .before .before in
+    let spelt = put-it .before .before .before .before in
+    let start = spelt .before .before .before in
+    let a = start .args in
+    let k = spelt .decimal .result in
+    let digits = spelt .decimal .last .1 .0 in
+    let fewest = spelt .decimal .ensures .1 .0 in
+    let few : k ≤ 20 = at-most-20 k (a .n) (start .fits .n .fits) fewest in
+    let all : k - 0 ≡ k = omega arith in
+    let text : take (k - 0) digits ≡ decimal (a .n) = ap (λ m. take m digits) all ∙ spelt .decimal .ensures .1 .1 ∙ decimal-is k (a .n) fewest in
+    let to-end = put-it .put-text .ensures in
+    (to-end .0 ∙ ap (λ t. put t (a .at, a .out .now)) text, rw (to-end .1) (simp length-take (omega (arith, few))))
 
 pub put-decimal-spec : {M : Type 1} → statement M
 put-decimal-spec =

@@ -28,13 +28,18 @@ same-length c = search needs
 
 returns : tie.Need-returns
 returns c =
-    let sign = c .before .before .before .before .before .before .before .put-text .ensures in
-    let digits = c .before .before .put-decimal .ensures in
-    let a = c .before .before .before .before .before .before .before .before .before .before .before .before .args in
-    let held : toZ w64 (ofZ w64 (a .n)) ≡ a .n = toZ-ofZ (c .before .before .before .before .before .before .before .before .before .before .before .before .fits .n) in
-    let size : c .before .before .before .magnitude .result ≡ natAbs (a .n) = c .before .before .before .magnitude .ensures ∙ ap natAbs held in
-    let text : 45 ∷ decimal (c .before .before .before .magnitude .result) ≡ signedText (a .n) = ap (λ m. 45 ∷ decimal m) size ∙ minus (a .n) (c .before .before .before .before .before .before .before .before .before .before .before .before .fits .n) (c .before .before .before .before .before .before .before .before .before .before .if1 .taken) in
-    (then _ _ _ (sign .0) (digits .0) ∙ ap (λ t. put t (a .at, a .out .now)) text, omega (arith, sign .1, digits .1))
+    let digits = c .before .before in
+    let size = digits .before in
+    let sign = size .before .before .before .before in
+    let test = sign .before .before .before in
+    let start = test .before .before in
+    let a = start .args in
+    let held : toZ w64 (ofZ w64 (a .n)) ≡ a .n = toZ-ofZ (start .fits .n) in
+    let size-is : size .magnitude .result ≡ natAbs (a .n) = size .magnitude .ensures ∙ ap natAbs held in
+    let text : 45 ∷ decimal (size .magnitude .result) ≡ signedText (a .n) = ap (λ m. 45 ∷ decimal m) size-is ∙ minus (a .n) (start .fits .n) (test .if1 .taken) in
+    let to-sign = sign .put-text .ensures in
+    let to-end = digits .put-decimal .ensures in
+    (then _ _ _ (to-sign .0) (to-end .0) ∙ ap (λ t. put t (a .at, a .out .now)) text, omega (arith, to-sign .1, to-end .1))
 
 magnitude-requires-2 : tie.Need-magnitude-requires-2
 magnitude-requires-2 c κs = search needs
@@ -47,12 +52,16 @@ same-length-2 c = search needs
 
 returns-2 : tie.Need-returns-2
 returns-2 c =
-    let digits = c .before .before .put-decimal2 .ensures in
-    let a = c .before .before .before .before .before .before .before .args in
-    let held : toZ w64 (ofZ w64 (a .n)) ≡ a .n = toZ-ofZ (c .before .before .before .before .before .before .before .fits .n) in
-    let size : c .before .before .before .magnitude2 .result ≡ natAbs (a .n) = c .before .before .before .magnitude2 .ensures ∙ ap natAbs held in
-    let text : decimal (c .before .before .before .magnitude2 .result) ≡ signedText (a .n) = ap decimal size ∙ plain (a .n) (c .before .before .before .before .before .before .before .fits .n) (c .before .before .before .before .before .if1 .left) in
-    (digits .0 ∙ ap (λ t. put t (a .at, a .out .now)) text, omega (arith, digits .1))
+    let digits = c .before .before in
+    let size = digits .before in
+    let test = size .before .before in
+    let start = test .before .before in
+    let a = start .args in
+    let held : toZ w64 (ofZ w64 (a .n)) ≡ a .n = toZ-ofZ (start .fits .n) in
+    let size-is : size .magnitude2 .result ≡ natAbs (a .n) = size .magnitude2 .ensures ∙ ap natAbs held in
+    let text : decimal (size .magnitude2 .result) ≡ signedText (a .n) = ap decimal size-is ∙ plain (a .n) (start .fits .n) (test .if1 .left) in
+    let to-end = digits .put-decimal2 .ensures in
+    (to-end .0 ∙ ap (λ t. put t (a .at, a .out .now)) text, omega (arith, to-end .1))
 
 pub put-signed-spec : {M : Type 1} → statement M
 put-signed-spec =

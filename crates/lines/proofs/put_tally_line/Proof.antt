@@ -44,14 +44,22 @@ same-length c = search needs
 returns : tie.Need-returns
 unfolding tallyLine
 returns c =
-    let name = c .before .before .before .before .before .before .before .before .before .before .before .before .before .before .before .before .before .before .before .before .before .before .before .before .before .before .before .before .before .put-text .ensures in
-    let accepted = c .before .before .before .before .before .before .before .before .before .before .before .before .before .before .before .before .before .before .before .before .before .before .before .before .before .put-decimal .ensures in
-    let name2 = c .before .before .before .before .before .before .before .before .before .before .before .before .before .before .before .before .before .before .before .before .put-text2 .ensures in
-    let refused = c .before .before .before .before .before .before .before .before .before .before .before .before .before .before .before .before .put-decimal2 .ensures in
-    let name3 = c .before .before .before .before .before .before .before .before .before .before .before .put-text3 .ensures in
-    let rows = c .before .before .before .before .before .before .before .put-decimal3 .ensures in
-    let end = c .before .before .put-text4 .ensures in
-    (then _ _ _ (then _ _ _ (then _ _ _ (then _ _ _ (then _ _ _ (then _ _ _ (name .0) (accepted .0)) (name2 .0)) (refused .0)) (name3 .0)) (rows .0)) (end .0), omega (arith, name .1, accepted .1, name2 .1, refused .1, name3 .1, rows .1, end .1))
+    let end = c .before .before in
+    let rows = end .before .before .before .before .before in
+    let name3 = rows .before .before .before .before in
+    let refused = name3 .before .before .before .before .before in
+    let name2 = refused .before .before .before .before in
+    let accepted = name2 .before .before .before .before .before in
+    let name = accepted .before .before .before .before in
+    let to-name = name .put-text .ensures in
+    let to-accepted = accepted .put-decimal .ensures in
+    let to-name2 = name2 .put-text2 .ensures in
+    let to-refused = refused .put-decimal2 .ensures in
+    let to-name3 = name3 .put-text3 .ensures in
+    let to-rows = rows .put-decimal3 .ensures in
+    let to-end = end .put-text4 .ensures in
+    let text = then _ _ _ (then _ _ _ (then _ _ _ (then _ _ _ (then _ _ _ (then _ _ _ (to-name .0) (to-accepted .0)) (to-name2 .0)) (to-refused .0)) (to-name3 .0)) (to-rows .0)) (to-end .0) in
+    (text, omega (arith, to-name .1, to-accepted .1, to-name2 .1, to-refused .1, to-name3 .1, to-rows .1, to-end .1))
 
 pub put-tally-line-spec : {M : Type 1} → statement M
 put-tally-line-spec =
