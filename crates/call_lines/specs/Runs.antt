@@ -56,6 +56,7 @@ callAt bs i = cond (leb (i * 96 + 96) (length bs)) (wordsAt bs (i * 96)) []
 unfoldable pub callCount : ℕ → ℕ
 callCount n = (n + 95) / 96
 
+-- the calls that the bytes are
 unfoldable pub callsOf : List ℕ → List (List ℤ)
 callsOf bs = listFrom (callAt bs) (callCount (length bs)) 0
 
@@ -76,6 +77,7 @@ pub record Run : Type 0 where
   pub tally : Tally
   pub text : ℕ × List ℕ
 
+-- a run by its area, progress and buffer
 abbrev pub runAt : List ℤ → Progress → List ℕ → Run
 runAt area p out = record { area = area; tally = p .tally; text = (p .used, out) }
 
@@ -91,7 +93,7 @@ ran schema bytes r =
     let done : List Logged × List ℤ = runOn schema (callsOf bytes) (r .area) in
     record { area = done .1; tally = countedAll (r .tally) (done .0); text = put (linesOf (done .0)) (r .text) }
 
--- the area and the tally after them
+-- the area and the tally after the calls that the bytes are
 unfoldable pub after : List ℕ → List ℕ → List ℤ → Tally → List ℤ × Tally
 after schema bytes area t =
     let done : List Logged × List ℤ = runOn schema (callsOf bytes) area in

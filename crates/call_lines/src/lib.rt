@@ -29,6 +29,7 @@ pub fn area_words(schema: &[u8], room: usize) -> usize
     }
 }
 
+// The smaller of two numbers.
 fn least(a: usize, b: usize) -> usize
     ensures { λ r. ⌜ r ≡ min a b ⌝ }
 {
@@ -47,6 +48,7 @@ struct Figures {
     net: i64,
 }
 
+// An answer in figures.
 fn figures_of(answer: Answer) -> Figures
     ensures { λ r. ⌜ (r .code ≡ shown answer .0) × (r .changed ≡ shown answer .1) × (r .net ≡ shown answer .2) ⌝ }
 {

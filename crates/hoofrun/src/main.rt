@@ -117,6 +117,7 @@ fn run(schema: &[u8], words: &mut [i64], out: &mut [u8], tally: Tally) -> Tally
     }
 }
 
+// Heading, schema, calls, tally.
 fn main() {
     let mut bytes = io::large_buffer();
     let mut words = [0i64; 8192];

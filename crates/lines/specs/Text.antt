@@ -26,9 +26,11 @@ unfoldable pub signedText : ℤ → List ℕ
 signedText (pos n) = decimal n
 signedText (negsuc n) = 45 ∷ decimal (suc n)
 
+-- `,`
 abbrev pub comma : List ℕ
 comma = 44 ∷ []
 
+-- the end of a line
 abbrev pub newline : List ℕ
 newline = 10 ∷ []
 

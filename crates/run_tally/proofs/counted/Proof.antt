@@ -71,13 +71,15 @@ module _ {M : Type 1} (𝓤 : URA M) (H : Heap 𝓤) (A : Atoms 𝓤) (W : Given
   lies-in : (h : Tally) (l : ℕ) → ent 𝓤 (sep 𝓤 (sem 𝓤 H A (fat fullShare T′.mir l 0 (mach h))) (sem 𝓤 H A (R .own h (mach h ∷ [])))) (sem 𝓤 H A (mem R .lies h l 0))
   unfolding partOf
   lies-in h l =
-      qed W (‵ (fat fullShare T′.mir l 0 (mach h)) ∷ ‵ (R .own h (mach h ∷ [])) ∷ []) ∵ use1 W (‵ (cellAt fullShare (R .mir) (mach h ∷ []) l 0)) (W .laws .at-raw fullShare T′.mir l 0 (mach h)) $ fjoin ! $
+      qed W (‵ (fat fullShare T′.mir l 0 (mach h)) ∷ ‵ (R .own h (mach h ∷ [])) ∷ []) ∵ use1 W (‵ (cellAt fullShare (R .mir) (mach h ∷ []) l 0)) (W .laws .at-raw fullShare T′.mir l 0 (mach h)) $
+      fjoin ! $
       fpack ! (List Val) (λ us. fsep (cellAt fullShare (R .mir) us l 0) (R .own h us)) (mach h ∷ []) $ done !
 
   lies-out : (h : Tally) (l : ℕ) → ent 𝓤 (sem 𝓤 H A (mem R .lies h l 0)) (sep 𝓤 (sem 𝓤 H A (fat fullShare T′.mir l 0 (mach h))) (sem 𝓤 H A (R .own h (mach h ∷ []))))
   unfolding partOf
   lies-out h l =
-      qed W (‵ (mem R .lies h l 0) ∷ []) ∵ fpick ! (λ vs. fsplit ! $ spelt ! R (Is R) (shows 𝓤 H A R) (LL.vals T.the-type T′.the-laws) (LL.tells T.the-type T′.the-laws) fullShare h vs l 0 $
+      qed W (‵ (mem R .lies h l 0) ∷ []) ∵ fpick ! (λ vs. fsplit ! $
+      spelt ! R (Is R) (shows 𝓤 H A R) (LL.vals T.the-type T′.the-laws) (LL.tells T.the-type T′.the-laws) fullShare h vs l 0 $
       use1 W (‵ (fat fullShare T′.mir l 0 (mach h))) (W .laws .raw-at fullShare T′.mir l 0 (mach h)) $ done !)
 
 module _ {M : Type 1} (𝓤 : URA M) (H : Heap 𝓤) (A : Atoms 𝓤) (W : Given 𝓤 H A) (at-mem : Memory → SProp 𝓤) (run : Routine → Fun 𝓤) (h : Tally) (n m : ℕ) (was : Is R h (mach h ∷ [])) (n-fits : n < 2 ^ 64) (m-fits : m < 2 ^ 64) where
@@ -93,8 +95,10 @@ module _ {M : Type 1} (𝓤 : URA M) (H : Heap 𝓤) (A : Atoms 𝓤) (W : Given
   exits : (z : Tally) → z ≡ tallied h n m → ent 𝓤 (sem 𝓤 H A (R .own z (mach z ∷ []))) (Post (mach z))
   exits z e =
       qed W (‵ (R .own z (mach z ∷ [])) ∷ []) ∵
-      suffices ! _ (ends-at 𝓤 H A f.ended stayed (f.clauses 𝓤 H A at-mem run) W ((tt, tt, tt, x, at), tt) (mach z) z (tt, (tt, (tt, tt))) (tt, (tt, (tt, tt)))) $ says ! e $
-      nothing ! $ owned ! u64 (Is u64) (uint-makes 𝓤 H A W w64) m _ (refl, m-fits) $ fjoin ! $ owned ! u64 (Is u64) (uint-makes 𝓤 H A W w64) n _ (refl, n-fits) $ fjoin ! $
+      suffices ! _ (ends-at 𝓤 H A f.ended stayed (f.clauses 𝓤 H A at-mem run) W ((tt, tt, tt, x, at), tt) (mach z) z (tt, (tt, (tt, tt))) (tt, (tt, (tt, tt)))) $
+      says ! e $
+      nothing ! $ owned ! u64 (Is u64) (uint-makes 𝓤 H A W w64) m _ (refl, m-fits) $ fjoin ! $
+      owned ! u64 (Is u64) (uint-makes 𝓤 H A W w64) n _ (refl, n-fits) $ fjoin ! $
       owned ! R (Is R) (LL.makes T.the-type T′.the-plain 𝓤 H A) h _ was $ fjoin ! $ nothing ! $ done !
 
   -- the reference that is passed, at the local l under the name δ, and what `count`'s triple binds outside
@@ -106,38 +110,51 @@ module _ {M : Type 1} (𝓤 : URA M) (H : Heap 𝓤) (A : Atoms 𝓤) (W : Given
 
   goes-count : (l ν : ℕ) (δ : GName) → ent 𝓤 (sep 𝓤 (A .lft (ν ∷ []) fullShare) (sem 𝓤 H A (MutRef (named 0) (ν ∷ []) R .own (ref l δ) (vptr l 0 ∷ [])))) (Count 𝓤 H A at-mem run .pre (to l ν δ))
   goes-count l ν δ =
-      qed W (‵ (flft (ν ∷ []) fullShare) ∷ ‵ (MutRef (named 0) (ν ∷ []) R .own (ref l δ) (vptr l 0 ∷ [])) ∷ []) ∵ nothing ! $ move ! (1 ∷ 0 ∷ []) $ join ! $ move ! (1 ∷ []) $
-      nothing ! $ owned ! u64 (Is u64) (uint-makes 𝓤 H A W w64) m _ (refl, m-fits) $ fjoin ! $ owned ! u64 (Is u64) (uint-makes 𝓤 H A W w64) n _ (refl, n-fits) $ fjoin ! $ move ! (1 ∷ 0 ∷ []) $ fjoin ! $ move ! (1 ∷ 0 ∷ []) $ join ! $ frame ! $ done !
+      qed W (‵ (flft (ν ∷ []) fullShare) ∷ ‵ (MutRef (named 0) (ν ∷ []) R .own (ref l δ) (vptr l 0 ∷ [])) ∷ []) ∵ nothing ! $ move ! (1 ∷ 0 ∷ []) $
+      join ! $ move ! (1 ∷ []) $
+      nothing ! $ owned ! u64 (Is u64) (uint-makes 𝓤 H A W w64) m _ (refl, m-fits) $ fjoin ! $
+      owned ! u64 (Is u64) (uint-makes 𝓤 H A W w64) n _ (refl, n-fits) $ fjoin ! $ move ! (1 ∷ 0 ∷ []) $ fjoin ! $ move ! (1 ∷ 0 ∷ []) $ join ! $
+      frame ! $ done !
 
   module _ (C : Calls 𝓤 H) (Λ : Loops 𝓤 H) (fm : FmC 𝓤 H (W .laws) C) (known : Triple 𝓤 (C #count) (Count 𝓤 H A at-mem run)) where
     walk : ent 𝓤 (onEntry 𝓤 H A f.signature tt tt x at) (WpFn 𝓤 H C Λ code.function (mach h ∷ vint w64 n ∷ vint w64 m ∷ []) Post)
     walk =
         qed W (‵ ftrue ∷ ‵ (owns (R ∷ u64 ∷ u64 ∷ []) x at) ∷ []) ∵ enter ! C Λ code.function (mach h ∷ vint w64 n ∷ vint w64 m ∷ []) _ $
         alloc1 ! (λ l₀. alloc1 ! (λ l₁. alloc1 ! (λ l₂. alloc1 ! (λ l₃. alloc1 ! (λ l₄. alloc1 ! (λ l₅. alloc1 ! (λ l₆. alloc0 ! $ params1 ! $
-        pass1 ! (init ! 10 refl (LL.lawful T.the-type T′.the-laws 𝓤 H A W .typed h _ was .0)) $ pass1 ! (init ! 8 refl (tt, record { fits = n-fits })) $ pass1 ! (init ! 6 refl (tt, record { fits = m-fits })) $ pass0 ! $
+        pass1 ! (init ! 10 refl (LL.lawful T.the-type T′.the-laws 𝓤 H A W .typed h _ was .0)) $
+        pass1 ! (init ! 8 refl (tt, record { fits = n-fits })) $ pass1 ! (init ! 6 refl (tt, record { fits = m-fits })) $ pass0 ! $
         assigns ! (of-opd ! (load ! (from ! (stop !)) (look ! 10 refl))) (from ! (stop !)) (init ! 4 refl (LL.lawful T.the-type T′.the-laws 𝓤 H A W .typed h _ was .0)) $
         assigns ! (addr ! (from ! (stop !))) (from ! (stop !)) (init ! 0 refl (tt, tt)) $
         -- the local is lent for a lifetime ν
-        owned ! R (Is R) (LL.makes T.the-type T′.the-plain 𝓤 H A) h _ was $ move ! (5 ∷ 0 ∷ []) $ use2 W (‵ (mem R .lies h l₄ 0)) (lies-in 𝓤 H A W h l₄) $
+        owned ! R (Is R) (LL.makes T.the-type T′.the-plain 𝓤 H A) h _ was $ move ! (5 ∷ 0 ∷ []) $
+        use2 W (‵ (mem R .lies h l₄ 0)) (lies-in 𝓤 H A W h l₄) $
         lft-new ! tt (λ ν. move ! (1 ∷ []) $
-        use1 W (later (some (λ (δ : GName). ‵ (MutRef (named 0) (ν ∷ []) R .own (ref l₄ δ) (vptr l₄ 0 ∷ [])) ⊛ ‵ (flent (ν ∷ []) (Body (mem R) l₄ 0 δ))))) (lends-ref 𝓤 H A W R (named 0) (ν ∷ []) h l₄ 0) $ await ! tt $ pick ! (λ δ. split ! $
+        use1 W (later (some (λ (δ : GName). ‵ (MutRef (named 0) (ν ∷ []) R .own (ref l₄ δ) (vptr l₄ 0 ∷ [])) ⊛ ‵ (flent (ν ∷ []) (Body (mem R) l₄ 0 δ))))) (lends-ref 𝓤 H A W R (named 0) (ν ∷ []) h l₄ 0) $
+        await ! tt $ pick ! (λ δ. split ! $
         move ! (2 ∷ 0 ∷ []) $ use2 W (raw (Count 𝓤 H A at-mem run .pre (to l₄ ν δ))) (goes-count l₄ ν δ) $
         -- [the callee's; the lender's part; _6; …; _5; …; that _4 dies; _3; …; _2; …; _1; …; room for _0; …]
         calls-at ! fm (Count 𝓤 H A at-mem run) known (to l₄ ν δ) (and-then ! (load ! (from ! (stop !)) (look ! 2 refl)) (and-then ! (load ! (from ! (stop !)) (look ! 9 refl)) (and-then ! (load ! (from ! (stop !)) (look ! 7 refl)) (no-more !)))) (λ v.
-        use1 W (later (some (λ (r : Unit {0}). ((‵ (flft (ν ∷ []) fullShare) ⊛ ‵ ftrue) ⊛ ‵ (Nothing .own r (v ∷ []))) ⊛ raw (ensured 𝓤 H A g.ended (g.clauses 𝓤 H A at-mem run) (ν ∷ [], tt) (ref l₄ δ, (n, (m, tt))) tt r)))) (id⊢ 𝓤 _) $ await ! tt $ pick ! (λ r.
+        use1 W (later (some (λ (r : Unit {0}). ((‵ (flft (ν ∷ []) fullShare) ⊛ ‵ ftrue) ⊛ ‵ (Nothing .own r (v ∷ []))) ⊛ raw (ensured 𝓤 H A g.ended (g.clauses 𝓤 H A at-mem run) (ν ∷ [], tt) (ref l₄ δ, (n, (m, tt))) tt r)))) (id⊢ 𝓤 _) $
+        await ! tt $ pick ! (λ r.
         -- what `count` ensures, at some last value
-        split ! $ move ! (1 ∷ []) $ use1 W (some (λ (zs : Tally × (Unit {0} × (Unit {0} × Unit {0}))). ‵ (lasts g.ended (ν ∷ [], tt) (ref l₄ δ, (n, (m, tt))) zs) ⊛ raw (fact 𝓤 (zs .0 ≡ tallied h n m)))) (id⊢ 𝓤 _) $ pick ! (λ zs.
-        split ! $ move ! (1 ∷ []) $ heard ! (zs .0 ≡ tallied h n m) (λ e. fsplit ! $ move ! (2 ∷ []) $ split ! $ split ! $ move ! (2 ∷ []) $ feqL ! (λ is.
+        split ! $ move ! (1 ∷ []) $
+        use1 W (some (λ (zs : Tally × (Unit {0} × (Unit {0} × Unit {0}))). ‵ (lasts g.ended (ν ∷ [], tt) (ref l₄ δ, (n, (m, tt))) zs) ⊛ raw (fact 𝓤 (zs .0 ≡ tallied h n m)))) (id⊢ 𝓤 _) $
+        pick ! (λ zs.
+        split ! $ move ! (1 ∷ []) $ heard ! (zs .0 ≡ tallied h n m) (λ e. fsplit ! $ move ! (2 ∷ []) $ split ! $ split ! $ move ! (2 ∷ []) $
+        feqL ! (λ is.
         -- [the token; true; the last value; …; the lender's part; _6; …; _5; …; that _4 dies; _3; …; _2; …; _1; …; room for _0; …]
         land ! (from ! (stop !)) (init ! 7 refl (subst (λ (y : Val). T (hasTy tyUnit y) × WT y) (sym (ap only is)) (tt, tt))) $
         -- the lifetime is ended, and the local is taken back at that value
-        lft-end ! tt $ move ! (0 ∷ 4 ∷ 2 ∷ []) $ use3 W (later (‵ (mem R .lies (zs .0) l₄ 0))) (ref-back 𝓤 H A W R (ν ∷ []) δ (zs .0) l₄ 0) $ await ! tt $
+        lft-end ! tt $ move ! (0 ∷ 4 ∷ 2 ∷ []) $ use3 W (later (‵ (mem R .lies (zs .0) l₄ 0))) (ref-back 𝓤 H A W R (ν ∷ []) δ (zs .0) l₄ 0) $
+        await ! tt $
         use1 W (‵ (fat fullShare T′.mir l₄ 0 (mach (zs .0))) ⊛ ‵ (R .own (zs .0) (mach (zs .0) ∷ []))) (lies-out 𝓤 H A W (zs .0) l₄) $ split ! $
         move ! (1 ∷ []) $ peeks ! R (Is R) (shows 𝓤 H A R) (zs .0) (mach (zs .0) ∷ []) (λ is′.
         -- [what the record owns; _4; true; …; _6; …; _5; …; that _4 dies; _3; …; _2; …; _1; …; room for _0; …]
         assigns ! (of-opd ! (load ! (from ! (stop !)) (look ! 1 refl))) (from ! (stop !)) (init ! 15 refl (LL.lawful T.the-type T′.the-laws 𝓤 H A W .typed (zs .0) _ is′ .0)) $
-        returns ! (look ! 15 refl) $ forget ! 1 refl $ forget ! 4 refl $ forget ! 6 refl $ forget ! 9 refl $ forget ! 11 refl $ forget ! 13 refl $ forget ! 15 refl $
-        move ! (15 ∷ 16 ∷ []) $ free1 ! $ move ! (13 ∷ 14 ∷ []) $ free1 ! $ move ! (11 ∷ 12 ∷ []) $ free1 ! $ move ! (9 ∷ 10 ∷ []) $ free1 ! $ move ! (1 ∷ 8 ∷ []) $ free1 ! $ move ! (5 ∷ 6 ∷ []) $ free1 ! $ move ! (3 ∷ 4 ∷ []) $ free1 ! $ free0 ! $
+        returns ! (look ! 15 refl) $ forget ! 1 refl $ forget ! 4 refl $ forget ! 6 refl $ forget ! 9 refl $ forget ! 11 refl $ forget ! 13 refl $
+        forget ! 15 refl $
+        move ! (15 ∷ 16 ∷ []) $ free1 ! $ move ! (13 ∷ 14 ∷ []) $ free1 ! $ move ! (11 ∷ 12 ∷ []) $ free1 ! $ move ! (9 ∷ 10 ∷ []) $ free1 ! $
+        move ! (1 ∷ 8 ∷ []) $ free1 ! $ move ! (5 ∷ 6 ∷ []) $ free1 ! $ move ! (3 ∷ 4 ∷ []) $ free1 ! $ free0 ! $
         keep ! (0 ∷ []) $ by ! (exits (zs .0) e))))))))))))))))
 
 module _ {M : Type 1} (𝓤 : URA M) (H : Heap 𝓤) (A : Atoms 𝓤) (W : Given 𝓤 H A) (at-mem : Memory → SProp 𝓤) (run : Routine → Fun 𝓤) where
