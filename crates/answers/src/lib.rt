@@ -1,7 +1,12 @@
 // Answers as words.
 ghost use mathlib.Core.Path.{_≡_};
+ghost use Prim.Native.Nat.{_+_, _*_, _≤_};
 ghost use lib.IntN.{pos};
-ghost use Rattle.rules.specs.Refusals.{number};
+ghost use lib.ListN.{length};
+ghost use lib.Seq.{sets};
+ghost use Rattle.rules.specs.Refusals.{number, shown};
+ghost use Rattle.answers.specs.AnswerWords.{answerWords};
+use rules::Answer;
 use rules::Refusal;
 
 // The paper's number of a refusal.
@@ -27,4 +32,39 @@ pub fn refusal_number(refusal: Refusal) -> i64
         Refusal::CommitWithOrphans => 21,
         Refusal::ListTooShort => 22,
     }
+}
+
+// An answer's code.
+pub fn code_of(answer: Answer) -> i64
+    ensures { λ x. ⌜ x ≡ pos (shown answer .0) ⌝ }
+{
+    match answer {
+        Answer::Done(_, _) => 0,
+        Answer::Refused(refusal) => refusal_number(refusal),
+    }
+}
+
+// An answer's code, rows changed and net.
+pub fn answer_words(answer: Answer) -> [i64; 3]
+    requires { ⌜ shown answer .1 ≤ 4096 ⌝ }
+    ensures { λ x. ⌜ x ≡ answerWords answer ⌝ }
+{
+    match answer {
+        Answer::Done(changed, net) => [0, words::word_of(changed), net],
+        Answer::Refused(refusal) => [refusal_number(refusal), 0, 0],
+    }
+}
+
+// Writes answer i of those laid end to end.
+pub fn put_answer(answers: &mut [i64], i: usize, answer: [i64; 3])
+    requires { ⌜ i * 3 + 3 ≤ length (now answers) ⌝ }
+    ensures { λ _. ⌜ now (answers .exit) ≡ sets (now (answers .entry)) (i * 3) answer ⌝ }
+{
+    let at = i * 3;
+    let code = answer[0];
+    let changed = answer[1];
+    let net = answer[2];
+    answers[at] = code;
+    answers[at + 1] = changed;
+    answers[at + 2] = net;
 }

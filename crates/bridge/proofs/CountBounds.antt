@@ -24,12 +24,12 @@ one : {A : Type 0} (p : A → Bool) (b : Bool) (xs : List A) → count p xs ≤ 
 one p true xs h = omega arith
 one p false xs h = omega arith
 
-count-bound : {A : Type 0} (p : A → Bool) (xs : List A) → count p xs ≤ length xs
+pub count-bound : {A : Type 0} (p : A → Bool) (xs : List A) → count p xs ≤ length xs
 unfolding count
 count-bound p [] = omega arith
 count-bound p (x ∷ xs) = one p (p x) xs (count-bound p xs)
 
-rows-at : (ts : List Table) (tabs : Tables) → widths tabs ≡ map shapeOf ts → (t : ℕ) → length (getD tabs t []) ≤ getD ts t noTable .rows
+pub rows-at : (ts : List Table) (tabs : Tables) → widths tabs ≡ map shapeOf ts → (t : ℕ) → length (getD tabs t []) ≤ getD ts t noTable .rows
 unfolding shapeOf
 rows-at [] [] h t = omega arith
 rows-at [] (x ∷ tabs) h t = absurd (let z : _≡_ {A = ℕ} 0 1 = cc in omega arith)

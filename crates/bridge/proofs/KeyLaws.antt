@@ -69,6 +69,11 @@ module _ (x x′ : Row) (same : (i : ℕ) → getD x i 𝟘 ≡ getD x′ i 𝟘
     unfolding serves mapsTo
     serves-same p = ap (λ (b : Bool). live p && b) (key-left p (k .childColumns) (k .parentColumns))
 
+    -- whether a row serves another
+    pub gives-same : (c : Row) → serves k c x ≡ serves k c x′
+    unfolding serves mapsTo
+    gives-same c = ap₂ (λ (a b : Bool). a && b) live-same (key-right c (k .childColumns) (k .parentColumns))
+
     -- whether a row is an orphan
     pub orphan-same : (ps : List Row) → orphan k ps x ≡ orphan k ps x′
     unfolding orphan due

@@ -31,13 +31,13 @@ abbrev pub of-size : {A : Type 0} → ℕ → List A → Bool
 of-size k xs = eqb (length xs) k
 
 module _ {A : Type 0} (k : ℕ) where
-  length-flat : (xss : List (List A)) → all (of-size k) xss ≡ true → length (flat xss) ≡ length xss * k
+  pub length-flat : (xss : List (List A)) → all (of-size k) xss ≡ true → length (flat xss) ≡ length xss * k
   unfolding flat
   length-flat [] h = omega arith
   length-flat (xs ∷ xss) h =
       simp length-append (omega (arith, eqb→eq (length xs) k (holds (all-head (of-size k) xs xss h)), length-flat xss (all-tail (of-size k) xs xss h)))
 
-  chunks-flat : (xss : List (List A)) → all (of-size k) xss ≡ true → chunks k (length xss) (flat xss) ≡ xss
+  pub chunks-flat : (xss : List (List A)) → all (of-size k) xss ≡ true → chunks k (length xss) (flat xss) ≡ xss
   unfolding flat chunks
   chunks-flat [] h = refl
   chunks-flat (xs ∷ xss) h =
@@ -58,7 +58,7 @@ module _ {A : Type 0} (p : A → Bool) where
   unfolding all
   all-reverse xs h = all-onto xs [] h refl
 
-  all-map : {B : Type 0} (q : B → Bool) (f : A → B) → ((x : A) → p x ≡ true → q (f x) ≡ true) → (xs : List A) → all p xs ≡ true → all q (map f xs) ≡ true
+  pub all-map : {B : Type 0} (q : B → Bool) (f : A → B) → ((x : A) → p x ≡ true → q (f x) ≡ true) → (xs : List A) → all p xs ≡ true → all q (map f xs) ≡ true
   unfolding all
   all-map q f e [] h = refl
   all-map q f e (x ∷ xs) h = all-cons q (f x) (map f xs) (e x (all-head p x xs h)) (all-map q f e xs (all-tail p x xs h))
@@ -143,7 +143,7 @@ chunks-sized k (suc n) xs h =
     all-cons (of-size k) (take k xs) (chunks k n (drop k xs)) (rw (length-take-le k xs (omega arith)) (passes (eqb k k) (eqb-refl k)))
     (chunks-sized k n (drop k xs) (simp length-drop (omega arith)))
 
-all-take : {A : Type 0} (p : A → Bool) (n : ℕ) (xs : List A) → all p xs ≡ true → all p (take n xs) ≡ true
+pub all-take : {A : Type 0} (p : A → Bool) (n : ℕ) (xs : List A) → all p xs ≡ true → all p (take n xs) ≡ true
 unfolding all
 all-take p zero xs h = refl
 all-take p (suc n) [] h = refl

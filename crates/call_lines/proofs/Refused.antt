@@ -16,15 +16,16 @@ use Rattle.rules.specs.declared.Answer.the-variants.{Refused}
 use Rattle.rules.specs.Calls.{formedIf, parse, allowed}
 use Rattle.rules.specs.Area.{ensure, areaStep}
 use Rattle.rules.specs.Engine.{underSchema, makeFresh, callOn}
-use Rattle.call_lines.specs.Runs.{wordsFor, areaWords}
+use Rattle.engine.specs.Calls.{areaWords}
+use Rattle.engine.proofs.CallLaws.{words-accepted}
 
 module _ (schema : List ℕ) (accepted : checkSchema schema ≡ Accepted) where
   -- "area at most 8,192 words, else 3"
-  pub too-large : (room : ℕ) (words : List ℤ) → length words ≡ areaWords schema room → room < areaSize (schemaOf schema) → makeFresh schema words ≡ (Refused WrongLength, words)
-  unfolding makeFresh underSchema ensure areaWords wordsFor
+  pub too-large : (room : ℕ) (words : List ℤ) → length words ≡ min (areaWords schema) room → room < areaSize (schemaOf schema) → makeFresh schema words ≡ (Refused WrongLength, words)
+  unfolding makeFresh underSchema ensure
   too-large room words size more =
-      let least : length words ≡ min (areaSize (schemaOf schema)) room = rw accepted at size in
-      let few : length words < areaSize (schemaOf schema) = omega (arith, least, more) in
+      let needed : areaSize (schemaOf schema) ≡ areaWords schema = words-accepted schema accepted refl in
+      let few : length words < areaSize (schemaOf schema) = omega (arith, size, needed, more) in
       rw (accepted, ne-eqb (length words) (areaSize (schemaOf schema)) (λ e. omega (arith, e, few))) refl
 
   -- "a short last call is 4"

@@ -10,11 +10,7 @@ use borrow.Author.Tests.{le-leb, lt-leb}
 use lib.Dec.{leb}
 use lib.IntN.{ℤ}
 use lib.ListN.{length}
-use Rattle.schema.specs.declared.SchemaAnswer.{SchemaAnswer}
 use Rattle.schema.specs.Ranges.{listFrom}
-use Rattle.schema.specs.Fields.{schemaOf}
-use Rattle.schema.specs.Check.{checkSchema}
-use Rattle.schema.specs.Sizes.{areaSize}
 use Rattle.rules.specs.declared.Answer.{Answer}
 use Rattle.rules.specs.Lists.{flat}
 use Rattle.rules.specs.Refusals.{shown}
@@ -27,14 +23,7 @@ use Rattle.run_tally.specs.Tallies.{tallied}
 use Rattle.lines.specs.Text.{put, answerLine}
 use Rattle.lines.proofs.TextLaws.{then}
 use Rattle.call_lines.specs.declared.Progress.{Progress}
-use Rattle.call_lines.specs.Runs.{wordsFor, areaWords, lineOf, countedIn, callAt, callCount, callsOf, linesOf, countedAll, Run, runAt, ranCall, ran, after}
-
--- ---- the area
-
--- its words by what the check of the schema finds
-pub words-by : (schema : List ℕ) (room : ℕ) (found : SchemaAnswer) → checkSchema schema ≡ found → wordsFor found (areaSize (schemaOf schema)) room ≡ areaWords schema room
-unfolding areaWords
-words-by schema room found e = ap (λ a. wordsFor a (areaSize (schemaOf schema)) room) (sym e)
+use Rattle.call_lines.specs.Runs.{lineOf, countedIn, callAt, callCount, callsOf, linesOf, countedAll, Run, runAt, ranCall, ran, after}
 
 -- ---- an answer
 

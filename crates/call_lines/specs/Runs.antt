@@ -2,16 +2,11 @@
 -- Assumes nothing.
 use mathlib.Core.Bool.{cond}
 use mathlib.Core.List.{List, [], _∷_, map}
-use Prim.Native.Nat.{ℕ, _+_, _*_, _/_, min}
+use Prim.Native.Nat.{ℕ, _+_, _*_, _/_}
 use lib.Dec.{leb}
 use lib.IntN.{ℤ}
 use lib.ListN.{length}
-use Rattle.schema.specs.declared.SchemaAnswer.{SchemaAnswer}
-use Rattle.schema.specs.declared.SchemaAnswer.the-variants.{Accepted, Malformed, Unmatched}
 use Rattle.schema.specs.Ranges.{listFrom}
-use Rattle.schema.specs.Fields.{schemaOf}
-use Rattle.schema.specs.Check.{checkSchema}
-use Rattle.schema.specs.Sizes.{areaSize}
 use Rattle.rules.specs.declared.Answer.{Answer}
 use Rattle.rules.specs.Lists.{flat}
 use Rattle.rules.specs.Refusals.{shown}
@@ -23,18 +18,6 @@ use Rattle.run_tally.specs.declared.Tally.{Tally}
 use Rattle.run_tally.specs.Tallies.{tallied}
 use Rattle.lines.specs.Text.{put, answerLine}
 use Rattle.call_lines.specs.declared.Progress.{Progress}
-
--- ---- the area
-
--- how many of `room` words the area takes by what the check of the schema finds
-unfoldable pub wordsFor : SchemaAnswer → ℕ → ℕ → ℕ
-wordsFor Accepted size room = min size room
-wordsFor Malformed size room = 0
-wordsFor Unmatched size room = 0
-
--- how many of `room` words the area takes; where they are too few, making it fresh is refused by 3
-unfoldable pub areaWords : List ℕ → ℕ → ℕ
-areaWords schema room = wordsFor (checkSchema schema) (areaSize (schemaOf schema)) room
 
 -- ---- one answer
 

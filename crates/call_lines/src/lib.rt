@@ -4,11 +4,11 @@ ghost use Prim.Native.Nat.{_+_, _*_, _≤_, min};
 ghost use lib.ListN.{length};
 ghost use Rattle.rules.specs.Refusals.{shown};
 ghost use Rattle.rules.specs.Engine.{callOn};
+ghost use Rattle.engine.specs.Calls.{areaWords};
 ghost use Rattle.lines.specs.Text.{put};
-ghost use Rattle.call_lines.specs.Runs.{areaWords, lineOf, countedIn, callAt, callCount, runAt, ranCall, ran};
+ghost use Rattle.call_lines.specs.Runs.{lineOf, countedIn, callAt, callCount, runAt, ranCall, ran};
 use rules::Answer;
 use run_tally::Tally;
-use schema::SchemaAnswer;
 
 // How far a run has come: its tally, and how many bytes of the output buffer hold text.
 pub struct Progress {
@@ -18,25 +18,15 @@ pub struct Progress {
 
 // ---- the area
 
-// How many of `room` words the area takes: as many as an accepted schema needs, or all if there are fewer; none for another schema.
-pub fn area_words(schema: &[u8], room: usize) -> usize
-    ensures { λ r. ⌜ (r ≡ areaWords (now (schema .entry)) room) × (r ≤ room) ⌝ }
+// How many of `room` words the area takes: as many as the schema needs, or all if there are fewer.
+pub fn words_taken(schema: &[u8], room: usize) -> usize
+    ensures { λ r. ⌜ (r ≡ min (areaWords (now (schema .entry))) room) × (r ≤ room) ⌝ }
 {
-    match schema_check::check_schema(schema) {
-        SchemaAnswer::Malformed => 0,
-        SchemaAnswer::Unmatched => 0,
-        SchemaAnswer::Accepted => least(fields::area_length(schema), room),
+    let needed = engine::area_words(schema);
+    if needed < room {
+        return needed;
     }
-}
-
-// The smaller of two numbers.
-fn least(a: usize, b: usize) -> usize
-    ensures { λ r. ⌜ r ≡ min a b ⌝ }
-{
-    if a < b {
-        return a;
-    }
-    b
+    room
 }
 
 // ---- answers

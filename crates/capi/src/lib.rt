@@ -1,8 +1,21 @@
 // The engine's functions for C. A slice is a pointer and a length.
 ghost use mathlib.Core.Path.{_≡_};
+ghost use mathlib.Core.List.{_∷_, []};
 ghost use lib.IntN.{pos};
 ghost use Rattle.schema.specs.Check;
+ghost use Rattle.engine.specs.Calls.{areaWords};
+ghost use Rattle.engine.specs.Runs.{callWords};
+ghost use Rattle.capi.specs.Shown.{freshCode};
 
+// The answer to a call.
+#[repr(C)]
+pub struct CallAnswer {
+    pub code: i64,
+    pub changed: i64,
+    pub net: i64,
+}
+
+// A byte as a signed number.
 fn signed(x: u8) -> i64
     ensures { λ r. ⌜ r ≡ pos x ⌝ }
 {
@@ -15,4 +28,34 @@ pub extern "C" fn hoofbook_check_schema(bytes: &[u8]) -> i64
     ensures { λ r. ⌜ r ≡ pos (Check.numberOf (Check.checkSchema (now (bytes .entry)))) ⌝ }
 {
     signed(schema_check::number(schema_check::check_schema(bytes)))
+}
+
+// The length of an area for a schema; 0 where the schema is refused.
+#[no_mangle]
+pub extern "C" fn hoofbook_area_words(schema: &[u8]) -> i64
+    ensures { λ r. ⌜ r ≡ pos (areaWords (now (schema .entry))) ⌝ }
+{
+    words::word_of(engine::area_words(schema))
+}
+
+// Makes an area fresh; answers the code.
+#[no_mangle]
+pub extern "C" fn hoofbook_make_fresh(schema: &[u8], area: &mut [i64]) -> i64
+    ensures { λ r. ⌜ (r, now (area .exit)) ≡ freshCode (now (schema .entry)) (now (area .entry)) ⌝ }
+{
+    let answer = engine::make_fresh(schema, area);
+    answers::code_of(answer)
+}
+
+// Carries out a call, or refuses it.
+#[no_mangle]
+pub extern "C" fn hoofbook_call(schema: &[u8], area: &mut [i64], call: &[i64]) -> CallAnswer
+    ensures { λ r. ⌜ (r .code ∷ r .changed ∷ r .net ∷ [], now (area .exit)) ≡ callWords (now (schema .entry)) (now (call .entry)) (now (area .entry)) ⌝ }
+{
+    let answer = engine::call_words(schema, area, call);
+    CallAnswer {
+        code: answer[0],
+        changed: answer[1],
+        net: answer[2],
+    }
 }

@@ -34,7 +34,7 @@ use Rattle.call_form.specs.declared.Request.{Request}
 use Rattle.call_form.specs.declared.Request.the-variants as request
 use Rattle.call_form.specs.Requests.{callOf, judged}
 use Rattle.call_form.proofs.Requested.{isCall, Read, read-is, refused-is, insert-row, update-row, delete-row, release-level, rollback-level}
-use Rattle.engine.specs.Calls.{RowCall, isRefused, freshArea}
+use Rattle.engine.specs.Calls.{RowCall, isRefused, freshArea, wordsUnder, areaWords}
 
 -- ---- refusals 1 and 2
 module _ (b : List ℕ) (a : List ℤ) (x : SchemaAnswer) (e : x ≡ checkSchema b) where
@@ -207,3 +207,17 @@ module _ (b : List ℕ) (a c : List ℤ) (x : Request) (h : Sound b a) (e : call
   pub malformed-call : x ≡ request.Malformed → (Refused BadCall, a) ≡ onWords (act (schemaOf b) (callOf x c) (view (schemaOf b) a))
   unfolding act callOf
   malformed-call q = turn-same {t = act (schemaOf b) (callOf x c) (view (schemaOf b) a)} (h .ready .fit) (rw q refl)
+
+-- ---- the length of an area
+
+pub words-accepted : (bs : List ℕ) → checkSchema bs ≡ Accepted → {n : ℕ} → n ≡ areaSize (schemaOf bs) → n ≡ areaWords bs
+unfolding areaWords wordsUnder
+words-accepted bs e h = rw e h
+
+pub words-malformed : (bs : List ℕ) → checkSchema bs ≡ Malformed → 0 ≡ areaWords bs
+unfolding areaWords wordsUnder
+words-malformed bs e = rw e refl
+
+pub words-unmatched : (bs : List ℕ) → checkSchema bs ≡ Unmatched → 0 ≡ areaWords bs
+unfolding areaWords wordsUnder
+words-unmatched bs e = rw e refl

@@ -1,1 +1,3 @@
 pub mod CallLaws
+pub mod RunLaws
+pub mod RunDemand

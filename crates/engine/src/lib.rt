@@ -1,8 +1,7 @@
 // The engine: its public operations take any schema bytes, any area and any call.
 ghost use mathlib.Core.Path.{_≡_};
-ghost use mathlib.Core.Bool.{Bool};
-ghost use Prim.Native.Nat.{_<_};
-ghost use lib.IntN.{ℤ, pos};
+ghost use Prim.Native.Nat.{_+_, _*_, _-_, _≤_, _<_};
+ghost use lib.IntN.{pos};
 ghost use lib.ListN.{length, getD, drop};
 ghost use Rattle.schema.specs.Records.{tableOf};
 ghost use Rattle.schema.specs.Fields.{schemaOf};
@@ -16,7 +15,8 @@ ghost use Rattle.rules.specs.Engine.{makeFresh, callOn};
 ghost use Rattle.bridge.specs.Fit.{workOf};
 ghost use Rattle.bridge.specs.Ready.{Sound, Placed};
 ghost use Rattle.call_form.specs.Requests.{callOf, judged};
-ghost use Rattle.engine.specs.Calls.{RowCall, isRefused, freshArea};
+ghost use Rattle.engine.specs.Calls.{RowCall, isRefused, freshArea, areaWords};
+ghost use Rattle.engine.specs.Runs.{callWords, least, callsRun, oneRun, runCalls};
 use call_form::Request;
 use rules::Answer;
 use rules::Refusal;
@@ -141,6 +141,17 @@ fn clear_area(schema: &[u8], area: &mut [i64]) -> Answer
 
 // ---- public operations
 
+// The length of an area for a schema; 0 where the schema is refused.
+pub fn area_words(schema: &[u8]) -> usize
+    ensures { λ n. ⌜ (n ≡ areaWords (now (schema .entry))) × (n < 188750) ⌝ }
+{
+    match schema_check::check_schema(schema) {
+        SchemaAnswer::Malformed => 0,
+        SchemaAnswer::Unmatched => 0,
+        SchemaAnswer::Accepted => fields::area_length(schema),
+    }
+}
+
 // Makes an area fresh: refused by 1, 2 and 3 only.
 pub fn make_fresh(schema: &[u8], area: &mut [i64]) -> Answer
     ensures { λ x. ⌜ (x, now (area .exit)) ≡ makeFresh (now (schema .entry)) (now (area .entry)) ⌝ }
@@ -161,4 +172,61 @@ pub fn call(schema: &[u8], area: &mut [i64], call: &[i64]) -> Answer
         SchemaAnswer::Unmatched => Answer::Refused(Refusal::SchemaUnmatched),
         SchemaAnswer::Accepted => call_area(schema, area, call),
     }
+}
+
+// ---- calls laid end to end
+
+// Carries out a call, or refuses it; answers its code, rows changed and net.
+pub fn call_words(schema: &[u8], area: &mut [i64], numbers: &[i64]) -> [i64; 3]
+    ensures { λ x. ⌜ (x, now (area .exit)) ≡ callWords (now (schema .entry)) (now (numbers .entry)) (now (area .entry)) ⌝ }
+{
+    let answer = call(schema, area, numbers);
+    answers::answer_words(answer)
+}
+
+// Where the call that begins at `from` ends.
+fn call_end(words: usize, from: usize) -> usize
+    requires { ⌜ from ≤ words ⌝ }
+    ensures { λ x. ⌜ x ≡ from + least 12 (words - from) ⌝ }
+{
+    if 12 <= words - from {
+        return from + 12;
+    }
+    words
+}
+
+// Runs call i of those laid end to end, and writes its answer.
+fn run_call(schema: &[u8], area: &mut [i64], calls: &[i64], answers: &mut [i64], i: usize)
+    requires { ⌜ (i * 12 ≤ length (now calls)) × (i * 3 + 3 ≤ length (now answers)) ⌝ }
+    ensures { λ _. ⌜ (now (area .exit), now (answers .exit)) ≡ oneRun (now (schema .entry)) (now (calls .entry)) i (now (area .entry), now (answers .entry)) ⌝ }
+{
+    let from = i * 12;
+    let to = call_end(calls.len(), from);
+    let answer = call_words(schema, area, &calls[from..to]);
+    answers::put_answer(answers, i, answer);
+}
+
+// How many calls are run.
+fn calls_run(words: usize, room: usize) -> usize
+    ensures { λ x. ⌜ x ≡ callsRun words room ⌝ }
+{
+    let calls = words / 12 + (words % 12 + 11) / 12;
+    let answers = room / 3;
+    if calls <= answers {
+        return calls;
+    }
+    answers
+}
+
+// Runs calls of twelve words laid end to end and writes their answers, three words each, as far as `answers` has room; says how many.
+pub fn run(schema: &[u8], area: &mut [i64], calls: &[i64], answers: &mut [i64]) -> usize
+    ensures { λ n. ⌜ (n, now (area .exit), now (answers .exit)) ≡ runCalls (now (schema .entry)) (now (calls .entry)) (now (area .entry)) (now (answers .entry)) ⌝ }
+{
+    let n = calls_run(calls.len(), answers.len());
+    let mut i = 0;
+    while i < n {
+        run_call(schema, area, calls, answers, i);
+        i += 1;
+    }
+    n
 }

@@ -106,7 +106,7 @@ fn refuse(out: &mut [u8], tally: Tally, answer: Answer) -> Tally
 fn run(schema: &[u8], words: &mut [i64], out: &mut [u8], tally: Tally) -> Tally
     requires { ⌜ 65536 ≤ length (now out) ⌝ }
 {
-    let n = call_lines::area_words(schema, words.len());
+    let n = call_lines::words_taken(schema, words.len());
     let answer = engine::make_fresh(schema, &mut words[0..n]);
     match answer {
         Answer::Done(_, _) => {

@@ -5,4 +5,5 @@ pub mod Formed
 pub mod Struck
 pub mod Areas
 pub mod Undone
+pub mod Changed
 pub mod Demand3

@@ -1,19 +1,16 @@
 -- A tally that follows the counts.
 -- Assumes nothing.
-use mathlib.Core.Path.{_≡_, refl, _∙_, subst, ap}
-use mathlib.Core.Bool.{true}
+use mathlib.Core.Path.{refl, _∙_, ap}
 use mathlib.Core.List.{List}
 use Prim.Native.Nat.{ℕ}
 use lib.IntN.{ℤ}
-use lib.ListN.{length}
 use Rattle.schema.specs.Ranges.{all}
 use Rattle.schema.specs.Records.{Schema}
 use Rattle.schema.specs.Fields.{schemaOf}
 use Rattle.rules.specs.Values.{inRange}
-use Rattle.bridge.specs.Fit.{Fit, Keeps}
-use Rattle.bridge.specs.Ready.{Ready}
+use Rattle.bridge.specs.Fit.{Fit}
 use Rattle.bridge.proofs.RowWords.{keeps-refl, keeps-trans}
-use Rattle.moves.specs.Tally.{ahead, Follows, Tallied}
+use Rattle.moves.specs.Tally.{Follows, Tallied}
 
 pub follows-refl : {s : Schema} {tally a : List ℤ} → Fit s a → Follows s tally a tally a
 follows-refl f = record { keeps = keeps-refl f; even = refl; size = refl }

@@ -1,2 +1,3 @@
 -- What the proofs of several functions use.
-pub mod TouchedLaws
+pub mod RowLaws
+pub mod KeyLaws

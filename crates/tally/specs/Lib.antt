@@ -1,1 +1,1 @@
-pub mod Touched
+pub mod RowOrphans

@@ -4,8 +4,8 @@ use Rattle.call_lines.specs.Runs.{callCount}
 use Rattle.hoofrun.proofs.run.Statement.{statement}
 use Rattle.hoofrun.proofs.run.Tie as tie
 
-area-words-requires : tie.Need-area-words-requires
-area-words-requires c κs = search needs
+words-taken-requires : tie.Need-words-taken-requires
+words-taken-requires c κs = search needs
 
 sub-make-fresh : tie.Need-sub-make-fresh
 sub-make-fresh c = search needs
@@ -66,7 +66,7 @@ pub run-spec : {M : Type 1} → statement M
 run-spec =
     tie.close
     (tie.spec
-    area-words-requires
+    words-taken-requires
     sub-make-fresh
     part-make-fresh-start
     part-make-fresh-end

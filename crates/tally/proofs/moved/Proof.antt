@@ -9,13 +9,13 @@ use Rattle.tally.proofs.moved.Statement.{statement}
 use Rattle.tally.proofs.moved.Tie as tie
 
 less-of-requires : tie.Need-less-of-requires
-less-of-requires c κs = (small-more {m = 2048} (omega arith) (c .pre .0), small-more {m = 1024} (omega arith) (c .pre .1 .0))
+less-of-requires c κs = (small-more {m = 2048} (omega arith) (c .pre .0), small-more {m = 2048} (omega arith) (c .pre .1 .0))
 
 plus-of-requires : tie.Need-plus-of-requires
 plus-of-requires c κs =
     let s = c .before in (
       rw (c .less-of .ensures) (less-small (s .args .tally) (s .args .taken) (search needs) (s .pre .0) (s .pre .1 .0) (omega arith)),
-      small-more {m = 1024} (omega arith) (s .pre .1 .1),
+      small-more {m = 2048} (omega arith) (s .pre .1 .1),
     )
 
 returns : tie.Need-returns

@@ -4,7 +4,7 @@ use borrow.Author.Needs.{needs}
 use lib.Dec.{eqb}
 use Rattle.schema.specs.Fields.{schemaOf}
 use Rattle.schema.specs.Records.{ForeignKey, keyOf}
-use Rattle.tally.proofs.TouchedLaws.{touches-child, touches-parent}
+use Rattle.tally.proofs.RowLaws.{touches-child, touches-parent}
 use Rattle.tally.proofs.touches.Statement.{statement}
 use Rattle.tally.proofs.touches.Tie as tie
 

@@ -15,16 +15,16 @@ use Rattle.rules.specs.Rows.{Tables}
 use Rattle.bridge.specs.Fit.{workOf}
 use Rattle.words.proofs.Signed.{back}
 use Rattle.words.proofs.Splice.{sets-more}
-use Rattle.tally.specs.Touched.{touchedOrphans}
-use Rattle.tally.proofs.TouchedLaws.{touchedList, list-length, list-at, list-filled}
-use Rattle.tally.proofs.touched_counts.Statement.{statement}
-use Rattle.tally.proofs.touched_counts.Tie as tie
+use Rattle.tally.specs.RowOrphans.{rowOrphans}
+use Rattle.tally.proofs.RowLaws.{rowList, list-length, list-at, list-filled}
+use Rattle.tally.proofs.row_counts.Statement.{statement}
+use Rattle.tally.proofs.row_counts.Tie as tie
 
 abbrev Inv-loop : tie.InvT-loop
-Inv-loop schema area t counts₀ n k₀ counts k = (k ≤ n) × ((length counts ≡ 32) × (counts ≡ sets (replicate 32 (pos 0)) 0 (take k (touchedList (schemaOf schema) t (workOf (schemaOf schema) area .tabs)))))
+Inv-loop schema area t r x y counts₀ n k₀ counts k = (k ≤ n) × ((length counts ≡ 32) × (counts ≡ sets (replicate 32 (pos 0)) 0 (take k (rowList (schemaOf schema) t r x y (workOf (schemaOf schema) area .tabs)))))
 
 abbrev μ-loop : tie.MeasureT-loop
-μ-loop schema area t counts₀ n k₀ counts k = n - k
+μ-loop schema area t r x y counts₀ n k₀ counts k = n - k
 
 key-count-requires : tie.Need-key-count-requires Inv-loop μ-loop
 key-count-requires c κs = search needs
@@ -32,8 +32,8 @@ key-count-requires c κs = search needs
 loop-holds : tie.Need-loop-holds Inv-loop μ-loop
 loop-holds c = search needs
 
-touched-orphans-requires : tie.Need-touched-orphans-requires Inv-loop μ-loop
-touched-orphans-requires c κs = search needs
+key-orphans-requires : tie.Need-key-orphans-requires Inv-loop μ-loop
+key-orphans-requires c κs = search needs
 
 word-of-requires : tie.Need-word-of-requires Inv-loop μ-loop
 word-of-requires c κs = search needs
@@ -55,15 +55,15 @@ loop-again c =
     let a = c .before .before .before .before .before .before .args in
     let s : Schema = schemaOf (a .schema .now) in
     let tabs : Tables = workOf s (a .area .now) .tabs in
-    let list : List ℤ = touchedList s (a .t) tabs in
+    let list : List ℤ = rowList s (a .t) (a .r) (a .x) (a .y) tabs in
     let l = c .before .before .before .loop in
     let lt : l .k < length (s .keys) = omega (arith, c .before .before .before .before .key-count .ensures .0) in
     let e : toZ w64 (ofZ w64 (c .word-of .result)) ≡ getD list (l .k) (pos 0)
     = back _ (c .word-of .ok)
     ∙ c .word-of .ensures
-    ∙ ap pos {y = touchedOrphans (a .t) tabs (keyOf s (l .k))} (c .before .touched-orphans .ensures .0)
-    ∙ list-at s (a .t) tabs (l .k) lt in
-    let more = sets-more (replicate 32 (pos 0)) list 0 (l .k) (pos 0) (omega (arith, list-length s (a .t) tabs)) (l .inv .1 .1) in
+    ∙ ap pos {y = rowOrphans (keyOf s (l .k)) (a .t) (a .r) (a .x) (a .y) tabs} (c .before .key-orphans .ensures .0)
+    ∙ list-at s (a .t) (a .r) (a .x) (a .y) tabs (l .k) lt in
+    let more = sets-more (replicate 32 (pos 0)) list 0 (l .k) (pos 0) (omega (arith, list-length s (a .t) (a .r) (a .x) (a .y) tabs)) (l .inv .1 .1) in
     (search needs, (simp length-set (l .inv .1 .0), rw e (rw (zero-add (l .k)) at more)))
 
 returns : tie.Need-returns Inv-loop μ-loop
@@ -72,17 +72,17 @@ returns c =
     let s : Schema = schemaOf (a .schema .now) in
     let n = c .before .before .key-count .ensures in
     let l = c .before .loop in
-    l .inv .1 .1 ∙ list-filled s (omega (arith, n)) (a .t) (workOf s (a .area .now) .tabs) (l .k) (omega (arith, n .0, c .loop-test .left))
+    l .inv .1 .1 ∙ list-filled s (omega (arith, n)) (a .t) (a .r) (a .x) (a .y) (workOf s (a .area .now) .tabs) (l .k) (omega (arith, n .0, c .loop-test .left))
 
-pub touched-counts-spec : {M : Type 1} → statement M
-touched-counts-spec =
+pub row-counts-spec : {M : Type 1} → statement M
+row-counts-spec =
     tie.close
     (tie.spec
     Inv-loop
     μ-loop
     key-count-requires
     loop-holds
-    touched-orphans-requires
+    key-orphans-requires
     word-of-requires
     mul-counts
     array-set-from-counts

@@ -1,0 +1,19 @@
+-- Rows with a key, and the rows of a table but for one.
+-- Assumes nothing.
+use mathlib.Core.Bool.{Bool, _&&_}
+use mathlib.Core.List.{List}
+use Prim.Native.Nat.{ℕ, suc, _+_, _*_, _-_}
+use Rattle.rules.specs.Rows.{Row, live}
+use Rattle.rules.specs.Keys.{sameKey}
+use Rattle.rows.specs.declared.TableRows.{TableRows}
+
+-- a live row whose key in columns cs is that of an image in columns ds
+unfoldable pub withKey : List ℕ → List ℕ → Row → Row → Bool
+withKey cs ds image row = live row && sameKey cs ds row image
+
+-- the rows below row r, and those above it
+unfoldable pub rowsBefore : TableRows → ℕ → TableRows
+rowsBefore t r = record { start = t .start; width = t .width; count = r }
+
+unfoldable pub rowsAfter : TableRows → ℕ → TableRows
+rowsAfter t r = record { start = t .start + suc r * t .width; width = t .width; count = t .count - suc r }

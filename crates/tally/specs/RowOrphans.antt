@@ -1,0 +1,34 @@
+-- The orphans that a row makes by having one image and not another.
+-- Assumes nothing.
+use mathlib.Core.Bool.{Bool, _||_}
+use mathlib.Core.List.{List, [], map}
+use Prim.Native.Nat.{ℕ, _+_}
+use lib.Dec.{eqb}
+use lib.IntN.{ℤ, pos}
+use lib.ListN.{getD}
+use Rattle.schema.specs.Records.{ForeignKey, Schema}
+use Rattle.rules.specs.Lists.{any, count, padded}
+use Rattle.rules.specs.Rows.{Row, Tables}
+use Rattle.rules.specs.Keys.{takes, sameParentKey}
+use Rattle.moves.specs.Movement.{except, exceptIf, ownOrphan, strandedRows}
+
+-- table t is the foreign key's child or its parent
+unfoldable pub touches : ℕ → ForeignKey → Bool
+touches t k = eqb (k .child) t || eqb (k .parent) t
+
+module _ (k : ForeignKey) (t r : ℕ) where
+  -- the child rows, but for row r of table t, that have x's parent key
+  unfoldable pub takenRows : Row → Tables → ℕ
+  takenRows x tabs = count (takes k x) (exceptIf (eqb (k .child) t) r (getD tabs (k .child) []))
+
+  -- row r of table t has x, and not y: the row itself, and the child rows that y would serve
+  unfoldable pub rowOrphans : Row → Row → Tables → ℕ
+  rowOrphans x y tabs = strandedRows k t r y x tabs + ownOrphan k t x tabs
+
+-- a parent row other than row r has x's parent key
+unfoldable pub hasTwin : ForeignKey → ℕ → Row → Tables → Bool
+hasTwin k r x tabs = any (sameParentKey k x) (except r (getD tabs (k .parent) []))
+
+-- of foreign keys 0 to 31
+unfoldable pub rowCounts : Schema → ℕ → ℕ → Row → Row → Tables → List ℤ
+rowCounts s t r x y tabs = padded 32 (map (λ k. pos (rowOrphans k t r x y tabs)) (s .keys))
