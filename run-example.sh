@@ -1,0 +1,6 @@
+#!/usr/bin/env bash
+# Proves and builds hoofrun where that is not done yet, and runs it on the paper's eight calls.
+set -euo pipefail
+cd "$(dirname "$0")"
+rt check hoofrun >&2
+exec target/bin/hoofrun <crates/hoofrun/stdin
