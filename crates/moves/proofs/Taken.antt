@@ -30,7 +30,7 @@ module _ (x y : Row) where
       let right : not (nullAt y d) ≡ true = and-right (not (nullAt x c)) (not (nullAt y d)) full in
       rw (values, left, right) refl
 
-  first : (c d : ℕ) (cs ds : List ℕ) → sameKey (c ∷ cs) (d ∷ ds) x y ≡ true → sameCell x y c d ≡ true
+  pub first : (c d : ℕ) (cs ds : List ℕ) → sameKey (c ∷ cs) (d ∷ ds) x y ≡ true → sameCell x y c d ≡ true
   unfolding sameKey
   first c d cs ds h = by (sameCell x y c d) h
     where
@@ -38,7 +38,7 @@ module _ (x y : Row) where
       by true e = refl
       by false e = e
 
-  rest : (c d : ℕ) (cs ds : List ℕ) → sameKey (c ∷ cs) (d ∷ ds) x y ≡ true → sameKey cs ds x y ≡ true
+  pub rest : (c d : ℕ) (cs ds : List ℕ) → sameKey (c ∷ cs) (d ∷ ds) x y ≡ true → sameKey cs ds x y ≡ true
   unfolding sameKey
   rest c d cs ds h = by (sameCell x y c d) h
     where

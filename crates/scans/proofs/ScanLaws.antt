@@ -106,11 +106,11 @@ module _ (a : List ℤ) (t : TableRows) (r : ℕ) (h : r < t .count) where
       }
 
   -- what a scan requires holds of each part
-  pub before-ready : {n : ℕ} {cs ds : List ℕ} {x : TableRows} → Standing a t → Columns (t .width) n cs × Columns 9 n ds → x ≡ rowsBefore t r → Standing a x × (Columns (x .width) n cs × Columns 9 n ds)
+  pub before-ready : {n : ℕ} {cs ds : List ℕ} {x : TableRows} → Standing a t → (1 ≤ n) × (Columns (t .width) n cs × Columns 9 n ds) → x ≡ rowsBefore t r → Standing a x × ((1 ≤ n) × (Columns (x .width) n cs × Columns 9 n ds))
   unfolding rowsBefore
   before-ready s k e = rw e (before-stands s, k)
 
-  pub after-ready : {n : ℕ} {cs ds : List ℕ} {x : TableRows} → Standing a t → Columns (t .width) n cs × Columns 9 n ds → x ≡ rowsAfter t r → Standing a x × (Columns (x .width) n cs × Columns 9 n ds)
+  pub after-ready : {n : ℕ} {cs ds : List ℕ} {x : TableRows} → Standing a t → (1 ≤ n) × (Columns (t .width) n cs × Columns 9 n ds) → x ≡ rowsAfter t r → Standing a x × ((1 ≤ n) × (Columns (x .width) n cs × Columns 9 n ds))
   unfolding rowsAfter
   after-ready s k e = rw e (after-stands s, k)
 
