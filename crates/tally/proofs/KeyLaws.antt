@@ -9,11 +9,12 @@ use borrow.Author.Tests.{eq-eqb, ne-eqb}
 use lib.Dec.{eqb, eqb→eq}
 use lib.IntN.{ℤ}
 use lib.ListN.{length, getD, take}
+use lib.Seq.{length-take-le}
 use Rattle.schema.specs.Bounds.{Columns}
 use Rattle.schema.specs.Records.{ForeignKey, keyOf}
 use Rattle.schema.specs.Fields.{schemaOf}
 use Rattle.schema.proofs.RangeLaws.{and-left}
-use Rattle.schema.proofs.FieldLaws.{same-width}
+use Rattle.schema.proofs.FieldLaws.{same-width, read-width}
 use Rattle.rules.specs.Lists.{any, count, one}
 use Rattle.rules.specs.Rows.{Row, Tables, live}
 use Rattle.rules.specs.Keys.{sameKey, mapsTo, orphan, takes, sameParentKey, fires}
@@ -84,6 +85,13 @@ module _ (b : List ℕ) (a : List ℤ) (k t r n : ℕ) (cs ps : List ℕ) (h : P
   pub same-columns : length (keyOf (schemaOf b) k .parentColumns) ≡ length (keyOf (schemaOf b) k .childColumns)
   same-columns = same-width b (c .accepted) k (c .key)
 
+  -- a foreign key has a column
+  some-columns : 1 ≤ n
+  some-columns =
+      let size : length (take n cs) ≡ n = length-take-le n cs (omega (arith, c .child-within .few, c .child-within .size)) in
+      let width = read-width b (c .accepted) k (c .key) refl in
+      omega (arith, size, ap length (c .child-is), width .0, width .1 .low)
+
   takes-with : (x : Row) → withKey (take n cs) (take n ps) x ≡ takes (keyOf (schemaOf b) k) x
   unfolding withKey takes mapsTo
   takes-with x = λ i row. live row && sameKey (c .child-is i) (c .parent-is i) row x
@@ -100,8 +108,8 @@ module _ (b : List ℕ) (a : List ℤ) (k t r n : ℕ) (cs ps : List ℕ) (h : P
     pub children-stand : Standing a rows
     children-stand = standing b a (h .ready) p child-there rows o
 
-    pub children-columns : Columns (rows .width) n cs × Columns 9 n ps
-    children-columns = (rw (o .width-is, e) (c .child-within), parent-wide b k n cs ps c)
+    pub children-columns : (1 ≤ n) × (Columns (rows .width) n cs × Columns 9 n ps)
+    children-columns = (some-columns, (rw (o .width-is, e) (c .child-within), parent-wide b k n cs ps c))
 
     pub children-few : {m : ℕ} → m ≤ rows .count → m ≤ 1024
     children-few l = omega (arith, l, children-stand .few)
@@ -125,8 +133,8 @@ module _ (b : List ℕ) (a : List ℤ) (k t r n : ℕ) (cs ps : List ℕ) (h : P
     pub parents-stand : Standing a rows × (r < rows .count)
     parents-stand = (standing b a (h .ready) t (h .table) rows o, rw (o .count-is) (h .row))
 
-    pub parents-columns : Columns (rows .width) n ps × Columns 9 n ps
-    parents-columns = (parent-in b k n cs ps c (sym e) o, parent-wide b k n cs ps c)
+    pub parents-columns : (1 ≤ n) × (Columns (rows .width) n ps × Columns 9 n ps)
+    parents-columns = (some-columns, (parent-in b k n cs ps c (sym e) o, parent-wide b k n cs ps c))
 
     pub twin-is : (x : Row) → any (withKey (take n ps) (take n ps) x) (except r (rowsIn a rows)) ≡ hasTwin (keyOf (schemaOf b) k) r x (workOf (schemaOf b) a .tabs)
     unfolding hasTwin
