@@ -1,10 +1,7 @@
 // A row change, the walk over the foreign keys and the walk over a key's child rows: they call each other, and the levels left under depth 17 fall.
 ghost use mathlib.Core.Path.{_≡_};
-ghost use mathlib.Core.Bool.{Bool, true, false};
-ghost use mathlib.Core.List.{List};
-ghost use Prim.Native.Nat.{ℕ, suc, _+_, _*_, _-_, _≤_, _<_};
-ghost use lib.IntN.{ℤ};
-ghost use lib.ListN.{length, getD, take};
+ghost use Prim.Native.Nat.{_+_, _*_, _-_, _≤_, _<_};
+ghost use lib.ListN.{length, take};
 ghost use Rattle.schema.specs.Bounds.{Columns};
 ghost use Rattle.schema.specs.Records.{tableOf, keyOf};
 ghost use Rattle.schema.specs.Fields.{schemaOf};
@@ -12,7 +9,6 @@ ghost use Rattle.schema.specs.Check.{checkSchema};
 ghost use Rattle.rules.specs.Lists.{upFrom};
 ghost use Rattle.rules.specs.Rows;
 ghost use Rattle.rules.specs.Keys;
-ghost use Rattle.rules.specs.Book.{write};
 ghost use Rattle.rules.specs.Change;
 ghost use Rattle.bridge.specs.Fit.{workOf};
 ghost use Rattle.bridge.specs.Ready.{Ready, Placed, resultOf};
@@ -30,7 +26,7 @@ use schema::SchemaAnswer;
 
 // The checks of a row change, in their order.
 fn admits(schema: &[u8], area: &[i64], t: usize, r: usize, image: [i64; 9]) -> Verdict
-    requires { ⌜ Ready (now schema) (now area) × (t < length (schemaOf (now schema) .tables)) ⌝ }
+    requires { ⌜ Placed (now schema) (now area) t r ⌝ }
     ensures { λ x. ⌜ x ≡ Change.admits (schemaOf (now (schema .entry))) t r image (workOf (schemaOf (now (schema .entry))) (now (area .entry))) ⌝ }
 {
     if area::is_full(schema, area) {
@@ -42,7 +38,7 @@ fn admits(schema: &[u8], area: &[i64], t: usize, r: usize, image: [i64; 9]) -> V
     if rows::not_null_broken(schema, t, image) {
         return Verdict::Fail(Refusal::NotNull);
     }
-    if rows::unique_broken(schema, area, t, r, image) {
+    if constraints::unique_broken(schema, area, t, r, image) {
         return Verdict::Fail(Refusal::NotUnique);
     }
     Verdict::Pass

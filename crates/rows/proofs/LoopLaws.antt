@@ -1,20 +1,16 @@
 -- Loops over a list: what is left at j is the list without its first j elements.
 -- Assumes nothing.
 use mathlib.Core.Path.{_≡_, refl, sym, ap, ap₂, _∙_}
-use mathlib.Core.Bool.{Bool, true, false, not, _&&_}
-use mathlib.Core.List.{List, [], _∷_}
+use mathlib.Core.Bool.{Bool, true, false}
+use mathlib.Core.List.{List, _∷_}
 use Prim.Native.Nat.{ℕ, zero, suc, _+_, _≤_, _<_}
 use native.Mathlib.Numerals.{add-one}
 use native.Mathlib.Omega.{arith}
-use lib.Dec.{eqb}
 use lib.ListN.{length, getD, drop, drop-of-length-le}
 use lib.Seq.{drop-cons}
 use Rattle.schema.specs.Ranges.{listFrom}
 use Rattle.schema.proofs.ListLaws.{length-from, get-list}
 use Rattle.rules.specs.Lists.{any, count, one, upFrom}
-use Rattle.rules.specs.Rows.{Row, live}
-use Rattle.rules.specs.Keys.{sameKey}
-use Rattle.rules.specs.Change.{twice}
 
 module _ {A : Type 0} (p : A → Bool) (xs : List A) where
   pub any-none : (j : ℕ) → length xs ≤ j → any p (drop j xs) ≡ false
@@ -56,21 +52,3 @@ up-length n = ap length (up-is 0 n) ∙ length-from (λ j. j) n 0
 
 pub up-get : (n j : ℕ) → j < n → j ≡ getD (upFrom 0 n) j 0
 up-get n j h = sym (ap (λ l. getD l j 0) (up-is 0 n) ∙ get-list (λ j. j) n j 0 h)
-
--- the rows of a table, but for row r
-module _ (cs : List ℕ) (r : ℕ) (new : Row) (rows : List Row) where
-  pub twice-none : (j : ℕ) → length rows ≤ j → twice cs r new j (drop j rows) ≡ false
-  unfolding twice
-  twice-none j h = ap (twice cs r new j) (drop-of-length-le rows h)
-
-  module _ (j : ℕ) (l : j < length rows) (x : Row) (e : x ≡ getD rows j []) where
-    twice-step : twice cs r new j (drop j rows) ≡ twice cs r new j (x ∷ drop (j + 1) rows)
-    twice-step = ap (twice cs r new j) (drop-cons rows j [] l ∙ ap₂ (λ (y : Row) (k : ℕ). y ∷ drop k rows) (sym e) (sym (add-one j)))
-
-    pub twice-hit : not (eqb j r) && (live x && sameKey cs cs x new) ≡ true → twice cs r new j (drop j rows) ≡ true
-    unfolding twice
-    twice-hit h = twice-step ∙ rw (h, twice)
-
-    pub twice-miss : not (eqb j r) && (live x && sameKey cs cs x new) ≡ false → twice cs r new j (drop j rows) ≡ twice cs r new (j + 1) (drop (j + 1) rows)
-    unfolding twice
-    twice-miss h = twice-step ∙ rw (h, twice) (rw add-one)

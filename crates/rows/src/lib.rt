@@ -1,10 +1,8 @@
 // Rows read by their words: keys compared, NOT NULL, unique, orphans.
 ghost use mathlib.Core.Path.{_≡_};
 ghost use mathlib.Core.Bool.{true, false, not, _&&_};
-ghost use mathlib.Core.List.{[]};
 ghost use Prim.Native.Nat.{suc, _+_, _≤_, _<_};
-ghost use lib.Dec.{eqb};
-ghost use lib.ListN.{length, getD, take};
+ghost use lib.ListN.{length, take};
 ghost use Rattle.schema.specs.Bounds.{Columns};
 ghost use Rattle.schema.specs.Bytes.{bit};
 ghost use Rattle.schema.specs.Records.{tableOf, keyOf};
@@ -17,7 +15,7 @@ ghost use Rattle.rules.specs.Change;
 ghost use Rattle.bridge.specs.Fit.{workOf};
 ghost use Rattle.bridge.specs.Ready.{Ready, rowIn};
 ghost use Rattle.rows.specs.Standing.{RowAt, Standing, rowsIn, RowsOf};
-ghost use Rattle.rows.specs.KeyColumns.{KeyColumns, keyBy, MaskWithin, maskBroken};
+ghost use Rattle.rows.specs.KeyColumns.{KeyColumns, keyBy};
 use schema::SchemaAnswer;
 
 // The rows of a table: their first word, the words of a row, how many there are.
@@ -242,84 +240,6 @@ pub fn mask_columns(m: usize) -> [usize; 8]
     list
 }
 
-// Whether row j of a table, at p, is not row r, is live and has the image's key.
-fn row_clashes(
-    area: &[i64],
-    p: usize,
-    w: usize,
-    image: &[i64; 9],
-    n: usize,
-    cs: &[usize; 8],
-    j: usize,
-    r: usize,
-) -> bool
-    requires { ⌜ RowAt (now area) p w × Columns w n (now cs) ⌝ }
-    ensures { λ x. ⌜ x ≡ not (eqb j r) && (Rows.live (rowIn (now (area .entry)) p w) && Keys.sameKey (take n (now (cs .entry))) (take n (now (cs .entry))) (rowIn (now (area .entry)) p w) (now (image .entry))) ⌝ }
-{
-    if j == r {
-        return false;
-    }
-    has_key(area, p, w, image, n, cs, cs)
-}
-
-// Whether a live row other than row r has the image's key.
-fn other_has_key(
-    area: &[i64],
-    table: TableRows,
-    r: usize,
-    image: &[i64; 9],
-    n: usize,
-    cs: &[usize; 8],
-) -> bool
-    requires { ⌜ Standing (now area) table × Columns (table .width) n (now cs) ⌝ }
-    ensures { λ x. ⌜ x ≡ Change.twice (take n (now (cs .entry))) r (now (image .entry)) 0 (rowsIn (now (area .entry)) table) ⌝ }
-{
-    let start = table.start;
-    let w = table.width;
-    let rows = table.count;
-    let mut j = 0;
-    while j < rows {
-        if row_clashes(area, start + j * w, w, image, n, cs, j, r) {
-            return true;
-        }
-        j += 1;
-    }
-    false
-}
-
-// Whether an image for row r breaks the unique key of a mask.
-fn mask_broken(area: &[i64], table: TableRows, r: usize, image: [i64; 9], m: usize) -> bool
-    requires { ⌜ Standing (now area) table × MaskWithin (table .width) m ⌝ }
-    ensures { λ x. ⌜ x ≡ maskBroken r image (rowsIn (now (area .entry)) table) m ⌝ }
-{
-    if m == 0 {
-        return false;
-    }
-    let n = mask_count(m);
-    let cs = mask_columns(m);
-    if !image_full_key(image, n, cs) {
-        return false;
-    }
-    other_has_key(area, table, r, &image, n, &cs)
-}
-
-// Whether an image for row r breaks a unique key of table t.
-pub fn unique_broken(schema: &[u8], area: &[i64], t: usize, r: usize, image: [i64; 9]) -> bool
-    requires { ⌜ Ready (now schema) (now area) × (t < length (schemaOf (now schema) .tables)) ⌝ }
-    ensures { λ x. ⌜ x ≡ Change.uniqueBroken (tableOf (schemaOf (now (schema .entry))) t) r image (getD (workOf (schemaOf (now (schema .entry))) (now (area .entry)) .tabs) t []) ⌝ }
-{
-    let table = rows_of(schema, t);
-    let mut u = 0;
-    while u < 4 {
-        let m = fields::unique_mask(schema, t, u);
-        if mask_broken(area, table, r, image, m) {
-            return true;
-        }
-        u += 1;
-    }
-    false
-}
-
 // ---- what an action looks at
 
 // Whether an old parent key without NULL is not the new one.
@@ -371,43 +291,6 @@ fn any_serves(
         j += 1;
     }
     false
-}
-
-// Whether a live parent row of foreign key k has the key of a child row's image.
-pub fn is_served(
-    schema: &[u8],
-    area: &[i64],
-    k: usize,
-    image: [i64; 9],
-    n: usize,
-    cs: [usize; 8],
-    ps: [usize; 8],
-) -> bool
-    requires { ⌜ Ready (now schema) (now area) × KeyColumns (now schema) k n cs ps ⌝ }
-    ensures { λ x. ⌜ x ≡ Lists.any (Keys.serves (keyOf (schemaOf (now (schema .entry))) k) image) (getD (workOf (schemaOf (now (schema .entry))) (now (area .entry)) .tabs) (keyOf (schemaOf (now (schema .entry))) k .parent) []) ⌝ }
-{
-    let t = fields::parent(schema, k);
-    let parents = rows_of(schema, t);
-    any_serves(area, parents, &image, n, &cs, &ps)
-}
-
-// Whether the image of a child row of foreign key k is that of an orphan.
-pub fn is_orphan_image(
-    schema: &[u8],
-    area: &[i64],
-    k: usize,
-    image: [i64; 9],
-    n: usize,
-    cs: [usize; 8],
-    ps: [usize; 8],
-) -> bool
-    requires { ⌜ Ready (now schema) (now area) × KeyColumns (now schema) k n cs ps ⌝ }
-    ensures { λ x. ⌜ x ≡ Keys.orphan (keyOf (schemaOf (now (schema .entry))) k) (getD (workOf (schemaOf (now (schema .entry))) (now (area .entry)) .tabs) (keyOf (schemaOf (now (schema .entry))) k .parent) []) image ⌝ }
-{
-    if !image_full_key(image, n, cs) {
-        return false;
-    }
-    !is_served(schema, area, k, image, n, cs, ps)
 }
 
 // 1 where the child row at p is an orphan, else 0.

@@ -1,6 +1,6 @@
 -- Rows that are passed over have not the key.
 -- Assumes nothing.
-use mathlib.Core.Path.{_≡_, refl, sym, _∙_, ap, ap₂}
+use mathlib.Core.Path.{_≡_, refl, sym, _∙_, ap}
 use mathlib.Core.Bool.{Bool, true, false, _&&_, _||_, false≢true, true≢false}
 use mathlib.Core.List.{List, [], _∷_}
 use Prim.Native.Nat.{ℕ, zero, suc, _+_, _*_, _-_, _≤_, _<_}
@@ -15,7 +15,7 @@ use Rattle.schema.specs.Bounds.{Columns}
 use Rattle.schema.proofs.RangeLaws.{and-left, and-right}
 use Rattle.rules.specs.Lists.{𝟘, any, count, one}
 use Rattle.rules.specs.Values.{sameValue}
-use Rattle.rules.specs.Rows.{Row, live, valueAt, nullAt}
+use Rattle.rules.specs.Rows.{Row, live, valueAt}
 use Rattle.rules.specs.Keys.{sameCell, sameKey}
 use Rattle.bridge.specs.Ready.{rowIn}
 use Rattle.bridge.proofs.Tests.{and-both}

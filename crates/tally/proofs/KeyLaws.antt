@@ -9,12 +9,11 @@ use borrow.Author.Tests.{eq-eqb, ne-eqb}
 use lib.Dec.{eqb, eqb→eq}
 use lib.IntN.{ℤ}
 use lib.ListN.{length, getD, take}
-use lib.Seq.{length-take-le}
 use Rattle.schema.specs.Bounds.{Columns}
 use Rattle.schema.specs.Records.{ForeignKey, keyOf}
 use Rattle.schema.specs.Fields.{schemaOf}
 use Rattle.schema.proofs.RangeLaws.{and-left}
-use Rattle.schema.proofs.FieldLaws.{same-width, read-width}
+use Rattle.schema.proofs.FieldLaws.{same-width}
 use Rattle.rules.specs.Lists.{any, count, one}
 use Rattle.rules.specs.Rows.{Row, Tables, live}
 use Rattle.rules.specs.Keys.{sameKey, mapsTo, orphan, takes, sameParentKey, fires}
@@ -26,6 +25,7 @@ use Rattle.rows.specs.Standing.{Standing, RowsOf, rowsIn}
 use Rattle.rows.specs.KeyColumns.{KeyColumns}
 use Rattle.rows.proofs.TableLaws.{child-table, parent-wide, parent-in, standing, rows-are}
 use Rattle.scans.specs.WithKey.{withKey}
+use Rattle.constraints.proofs.ServedLaws.{some-columns}
 use Rattle.moves.specs.Movement.{pick, except, exceptIf, ownOrphan, strandedRows}
 use Rattle.moves.proofs.Taken.{stranded-rows}
 use Rattle.tally.specs.RowOrphans.{takenRows, hasTwin}
@@ -85,13 +85,6 @@ module _ (b : List ℕ) (a : List ℤ) (k t r n : ℕ) (cs ps : List ℕ) (h : P
   pub same-columns : length (keyOf (schemaOf b) k .parentColumns) ≡ length (keyOf (schemaOf b) k .childColumns)
   same-columns = same-width b (c .accepted) k (c .key)
 
-  -- a foreign key has a column
-  some-columns : 1 ≤ n
-  some-columns =
-      let size : length (take n cs) ≡ n = length-take-le n cs (omega (arith, c .child-within .few, c .child-within .size)) in
-      let width = read-width b (c .accepted) k (c .key) refl in
-      omega (arith, size, ap length (c .child-is), width .0, width .1 .low)
-
   takes-with : (x : Row) → withKey (take n cs) (take n ps) x ≡ takes (keyOf (schemaOf b) k) x
   unfolding withKey takes mapsTo
   takes-with x = λ i row. live row && sameKey (c .child-is i) (c .parent-is i) row x
@@ -109,7 +102,7 @@ module _ (b : List ℕ) (a : List ℤ) (k t r n : ℕ) (cs ps : List ℕ) (h : P
     children-stand = standing b a (h .ready) p child-there rows o
 
     pub children-columns : (1 ≤ n) × (Columns (rows .width) n cs × Columns 9 n ps)
-    children-columns = (some-columns, (rw (o .width-is, e) (c .child-within), parent-wide b k n cs ps c))
+    children-columns = (some-columns b k n cs ps c, (rw (o .width-is, e) (c .child-within), parent-wide b k n cs ps c))
 
     pub children-few : {m : ℕ} → m ≤ rows .count → m ≤ 1024
     children-few l = omega (arith, l, children-stand .few)
@@ -134,7 +127,7 @@ module _ (b : List ℕ) (a : List ℤ) (k t r n : ℕ) (cs ps : List ℕ) (h : P
     parents-stand = (standing b a (h .ready) t (h .table) rows o, rw (o .count-is) (h .row))
 
     pub parents-columns : (1 ≤ n) × (Columns (rows .width) n ps × Columns 9 n ps)
-    parents-columns = (some-columns, (parent-in b k n cs ps c (sym e) o, parent-wide b k n cs ps c))
+    parents-columns = (some-columns b k n cs ps c, (parent-in b k n cs ps c (sym e) o, parent-wide b k n cs ps c))
 
     pub twin-is : (x : Row) → any (withKey (take n ps) (take n ps) x) (except r (rowsIn a rows)) ≡ hasTwin (keyOf (schemaOf b) k) r x (workOf (schemaOf b) a .tabs)
     unfolding hasTwin

@@ -44,7 +44,7 @@ fn own_orphan(
     if fields::child(schema, k) != t {
         return 0;
     }
-    if rows::is_orphan_image(schema, area, k, image, n, cs, ps) {
+    if constraints::is_orphan_image(schema, area, k, image, n, cs, ps) {
         return 1;
     }
     0

@@ -284,7 +284,9 @@ row-change-admits-requires : (t : ℕ) → row-change-lts.Need-admits-requires (
   key-walk-below t,
   key-walk.Post,
 ) (row-change-at t) row-change.Post
-row-change-admits-requires t c κs = (c .before .before .before .pre .1 .tallied .ready, c .before .before .before .pre .1 .table)
+row-change-admits-requires t c κs =
+    let at = c .before .before .before .pre .1 in
+    record { ready = at .tallied .ready; table = at .table; row = at .row }
 
 row-change-enum-known-c : (t : ℕ) → row-change-lts.Need-enum-known-c (
   admits-reads.Asked,

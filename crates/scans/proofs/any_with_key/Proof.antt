@@ -21,24 +21,24 @@ abbrev μ-loop : tie.MeasureT-loop
 μ-loop area table image n cs ds start w rows sought j₀ j = rows - j
 
 sought-of-requires : tie.Need-sought-of-requires Inv-loop μ-loop
-sought-of-requires c κs = 
+sought-of-requires c κs =
     let s = c in
     (s .pre .1 .0, (widen (s .pre .0 .narrow) (s .pre .1 .1 .0), s .pre .1 .1 .1))
 
 skip-rows-requires : tie.Need-skip-rows-requires Inv-loop μ-loop
-skip-rows-requires c κs = 
+skip-rows-requires c κs =
     let s = c .before in
     (s .pre .0, (omega arith, sought-within (s .args .n) (s .args .cs .now) (s .args .ds .now) (s .args .image .now) (s .pre .1 .0) (s .pre .1 .1 .0) (c .sought-of .ensures)))
 
 loop-holds : tie.Need-loop-holds Inv-loop μ-loop
-loop-holds c = 
+loop-holds c =
     let s = c .before .before in
     let a = s .args .area .now in
     let t = s .args .table in
     (c .skip-rows .ensures .high, any-skipped a t (s .args .n) (s .args .cs .now) (s .args .ds .now) (s .args .image .now) (s .pre .1 .0) (s .pre .1 .1 .0) (s .pre .1 .1 .1) (c .before .sought-of .ensures) (c .skip-rows .ensures))
 
 mul-has-key : tie.Need-mul-has-key Inv-loop μ-loop
-mul-has-key c = 
+mul-has-key c =
     let s = c .before .before .before .before in
     let a = s .args .area .now in
     let t = s .args .table in
@@ -46,7 +46,7 @@ mul-has-key c =
     omega (arith, h .within)
 
 add-has-key : tie.Need-add-has-key Inv-loop μ-loop
-add-has-key c = 
+add-has-key c =
     let s = c .before .before .before .before in
     let a = s .args .area .now in
     let t = s .args .table in
@@ -54,14 +54,14 @@ add-has-key c =
     omega (arith, h .within)
 
 has-key-requires : tie.Need-has-key-requires Inv-loop μ-loop
-has-key-requires c κs = 
+has-key-requires c κs =
     let s = c .before .before .before .before in
     let a = s .args .area .now in
     let t = s .args .table in
     (row-at a t (c .before .loop .j) (c .loop-test .taken) (s .pre .0), s .pre .1 .1)
 
 returns : tie.Need-returns Inv-loop μ-loop
-returns c = 
+returns c =
     let s = c .before .before .before .before .before .before in
     let a = s .args .area .now in
     let t = s .args .table in
@@ -75,7 +75,7 @@ add-skip-rows : tie.Need-add-skip-rows Inv-loop μ-loop
 add-skip-rows c = omega (arith, c .before .before .before .before .before .before .pre .0 .few, c .before .before .loop-test .taken)
 
 skip-rows-requires-2 : tie.Need-skip-rows-requires-2 Inv-loop μ-loop
-skip-rows-requires-2 c κs = 
+skip-rows-requires-2 c κs =
     let s = c .before .before .before .before .before .before in
     (s .pre .0, (omega (arith, c .before .before .loop-test .taken), sought-within (s .args .n) (s .args .cs .now) (s .args .ds .now) (s .args .image .now) (s .pre .1 .0) (s .pre .1 .1 .0) (c .before .before .before .before .before .sought-of .ensures)))
 
@@ -83,7 +83,7 @@ loop-less : tie.Need-loop-less Inv-loop μ-loop
 loop-less c = omega (arith, c .skip-rows2 .ensures .low, c .before .before .before .loop-test .taken)
 
 loop-again : tie.Need-loop-again Inv-loop μ-loop
-loop-again c = 
+loop-again c =
     let s = c .before .before .before .before .before .before .before in
     let a = s .args .area .now in
     let t = s .args .table in
@@ -95,7 +95,7 @@ loop-again c =
     (c .skip-rows2 .ensures .high, l .inv .1 ∙ next ∙ any-skipped a t (s .args .n) (s .args .cs .now) (s .args .ds .now) (s .args .image .now) (s .pre .1 .0) (s .pre .1 .1 .0) (s .pre .1 .1 .1) (c .before .before .before .before .before .before .sought-of .ensures) (c .skip-rows2 .ensures))
 
 returns-2 : tie.Need-returns-2 Inv-loop μ-loop
-returns-2 c = 
+returns-2 c =
     let s = c .before .before .before .before in
     let a = s .args .area .now in
     let t = s .args .table in

@@ -21,24 +21,24 @@ abbrev μ-loop : tie.MeasureT-loop
 μ-loop area table image n cs ds start w rows sought m₀ j₀ m j = rows - j
 
 sought-of-requires : tie.Need-sought-of-requires Inv-loop μ-loop
-sought-of-requires c κs = 
+sought-of-requires c κs =
     let s = c in
     (s .pre .1 .0, (widen (s .pre .0 .narrow) (s .pre .1 .1 .0), s .pre .1 .1 .1))
 
 skip-rows-requires : tie.Need-skip-rows-requires Inv-loop μ-loop
-skip-rows-requires c κs = 
+skip-rows-requires c κs =
     let s = c .before in
     (s .pre .0, (omega arith, sought-within (s .args .n) (s .args .cs .now) (s .args .ds .now) (s .args .image .now) (s .pre .1 .0) (s .pre .1 .1 .0) (c .sought-of .ensures)))
 
 loop-holds : tie.Need-loop-holds Inv-loop μ-loop
-loop-holds c = 
+loop-holds c =
     let s = c .before .before in
     let a = s .args .area .now in
     let t = s .args .table in
     (c .skip-rows .ensures .high, (omega arith, zero-add _ ∙ sym (count-skipped a t (s .args .n) (s .args .cs .now) (s .args .ds .now) (s .args .image .now) (s .pre .1 .0) (s .pre .1 .1 .0) (s .pre .1 .1 .1) (c .before .sought-of .ensures) (c .skip-rows .ensures))))
 
 mul-key-number : tie.Need-mul-key-number Inv-loop μ-loop
-mul-key-number c = 
+mul-key-number c =
     let s = c .before .before .before .before in
     let a = s .args .area .now in
     let t = s .args .table in
@@ -46,7 +46,7 @@ mul-key-number c =
     omega (arith, h .within)
 
 add-key-number : tie.Need-add-key-number Inv-loop μ-loop
-add-key-number c = 
+add-key-number c =
     let s = c .before .before .before .before in
     let a = s .args .area .now in
     let t = s .args .table in
@@ -54,7 +54,7 @@ add-key-number c =
     omega (arith, h .within)
 
 key-number-requires : tie.Need-key-number-requires Inv-loop μ-loop
-key-number-requires c κs = 
+key-number-requires c κs =
     let s = c .before .before .before .before in
     let a = s .args .area .now in
     let t = s .args .table in
@@ -67,7 +67,7 @@ add-skip-rows : tie.Need-add-skip-rows Inv-loop μ-loop
 add-skip-rows c = omega (arith, c .before .before .before .before .before .pre .0 .few, c .before .loop-test .taken)
 
 skip-rows-requires-2 : tie.Need-skip-rows-requires-2 Inv-loop μ-loop
-skip-rows-requires-2 c κs = 
+skip-rows-requires-2 c κs =
     let s = c .before .before .before .before .before in
     (s .pre .0, (omega (arith, c .before .loop-test .taken), sought-within (s .args .n) (s .args .cs .now) (s .args .ds .now) (s .args .image .now) (s .pre .1 .0) (s .pre .1 .1 .0) (c .before .before .before .before .sought-of .ensures)))
 
@@ -75,7 +75,7 @@ loop-less : tie.Need-loop-less Inv-loop μ-loop
 loop-less c = omega (arith, c .skip-rows2 .ensures .low, c .before .before .loop-test .taken)
 
 loop-again : tie.Need-loop-again Inv-loop μ-loop
-loop-again c = 
+loop-again c =
     let s = c .before .before .before .before .before .before in
     let a = s .args .area .now in
     let t = s .args .table in
@@ -88,7 +88,7 @@ loop-again c =
     (c .skip-rows2 .ensures .high, (omega (arith, l .inv .1 .0, one .1, c .skip-rows2 .ensures .low), omega (arith, l .inv .1 .1, more, past, one .0)))
 
 returns : tie.Need-returns Inv-loop μ-loop
-returns c = 
+returns c =
     let s = c .before .before .before .before in
     let a = s .args .area .now in
     let t = s .args .table in

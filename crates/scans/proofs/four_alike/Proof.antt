@@ -14,7 +14,7 @@ is-alike-requires : tie.Need-is-alike-requires
 is-alike-requires c κs = search needs
 
 returns : tie.Need-returns
-returns c = 
+returns c =
     let a = c .before .before .args in
     four-first (a .area .now) (a .start) (a .w) (a .sought) (a .j) (sym (c .before .is-alike .ensures) ∙ c .if1 .taken)
 
@@ -25,7 +25,7 @@ is-alike-requires-2 : tie.Need-is-alike-requires-2
 is-alike-requires-2 c κs = search needs
 
 returns-2 : tie.Need-returns-2
-returns-2 c = 
+returns-2 c =
     let a = c .before .before .before .before .args in
     four-second (a .area .now) (a .start) (a .w) (a .sought) (a .j) (sym (c .before .before .before .is-alike .ensures) ∙ c .before .before .if1 .left) (sym (c .before .is-alike2 .ensures) ∙ c .if2 .taken)
 
@@ -39,7 +39,7 @@ is-alike-requires-3 : tie.Need-is-alike-requires-3
 is-alike-requires-3 c κs = search needs
 
 returns-3 : tie.Need-returns-3
-returns-3 c = 
+returns-3 c =
     let a = c .before .before .before .before .before .before .args in
     four-third (a .area .now) (a .start) (a .w) (a .sought) (a .j) (sym (c .before .before .before .before .before .is-alike .ensures) ∙ c .before .before .before .before .if1 .left) (sym (c .before .before .before .is-alike2 .ensures) ∙ c .before .before .if2 .left) (sym (c .before .is-alike3 .ensures) ∙ c .if3 .taken)
 
@@ -56,7 +56,7 @@ is-alike-requires-4 : tie.Need-is-alike-requires-4
 is-alike-requires-4 c κs = search needs
 
 returns-4 : tie.Need-returns-4
-returns-4 c = 
+returns-4 c =
     let a = c .before .before .before .before .before .before .before .args in
     c .is-alike4 .ensures ∙ four-last (a .area .now) (a .start) (a .w) (a .sought) (a .j) (sym (c .before .before .before .before .before .before .is-alike .ensures) ∙ c .before .before .before .before .before .if1 .left) (sym (c .before .before .before .before .is-alike2 .ensures) ∙ c .before .before .before .if2 .left) (sym (c .before .before .is-alike3 .ensures) ∙ c .before .if3 .left)
 

@@ -23,7 +23,7 @@ same-word-requires : tie.Need-same-word-requires
 same-word-requires c κs = search needs
 
 returns : tie.Need-returns
-returns c = 
+returns c =
     let s = c .before .before .before .before .before in
     let a = s .args in
     let v : SFits w64 (a .sought .v) = search needs in
@@ -43,7 +43,7 @@ same-word-requires-2 : tie.Need-same-word-requires-2
 same-word-requires-2 c κs = search needs
 
 returns-2 : tie.Need-returns-2
-returns-2 c = 
+returns-2 c =
     let s = c .before .before .before .before .before .before .before .before .before in
     let a = s .args in
     let v : SFits w64 (a .sought .v) = search needs in

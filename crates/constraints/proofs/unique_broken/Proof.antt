@@ -10,13 +10,13 @@ use Rattle.rules.specs.Lists.{any}
 use Rattle.rules.specs.Rows.{Row}
 use Rattle.rules.specs.Change.{uniqueBroken}
 use Rattle.bridge.specs.Fit.{workOf}
 use Rattle.rows.specs.Standing.{rowsIn}
 use Rattle.rows.specs.KeyColumns.{maskBroken}
 use Rattle.rows.proofs.LoopLaws.{any-none, any-hit, any-miss}
 use Rattle.rows.proofs.MaskLaws.{unique-inside, masks-four, unique-masks}
 use Rattle.rows.proofs.TableLaws.{rows-are, standing}
-use Rattle.rows.proofs.unique_broken.Statement.{statement}
-use Rattle.rows.proofs.unique_broken.Tie as tie
+use Rattle.constraints.proofs.unique_broken.Statement.{statement}
+use Rattle.constraints.proofs.unique_broken.Tie as tie
 
 abbrev Inv-loop : tie.InvT-loop
 Inv-loop schema area t r image table u₀ u =
@@ -34,7 +34,7 @@ loop-holds : tie.Need-loop-holds Inv-loop μ-loop
 loop-holds c =
     let s = c .before .before in
     let T = tableOf (schemaOf (s .args .schema .now)) (s .args .t) in
-    let e = rows-are (s .args .schema .now) (s .args .area .now) (s .pre .0) (s .args .t) (s .pre .1) (c .rows-of .result) (c .rows-of .ensures) in (
+    let e = rows-are (s .args .schema .now) (s .args .area .now) (s .pre .ready) (s .args .t) (s .pre .table) (c .rows-of .result) (c .rows-of .ensures) in (
       search needs,
       unique-masks T _ _ _
           ∙ ap (λ (l : List Row). any (maskBroken (s .args .r) (s .args .image) l) (drop 0 (T .uniques))) (sym e),
@@ -46,16 +46,17 @@ unique-mask-requires c κs = search needs
 mask-broken-requires : tie.Need-mask-broken-requires Inv-loop μ-loop
 mask-broken-requires c κs =
     let s = c .before .before .before .before .before in
-    let i = unique-inside (s .args .schema .now) (s .pre .0 .accepted) (s .args .t) (s .pre .1) (c .before .before .loop .u) (c .before .loop-test .taken) in (
-      standing (s .args .schema .now) (s .args .area .now) (s .pre .0) (s .args .t) (s .pre .1) (c .before .before .before .rows-of .result) (c .before .before .before .rows-of .ensures),
-      rw (c .before .before .before .rows-of .ensures .width-is, c .unique-mask .ensures .0) i,
-    )
+    let o = c .before .before .before .rows-of .ensures in
+    let inside = unique-inside (s .args .schema .now) (s .pre .ready .accepted) (s .args .t) (s .pre .table) (c .before .before .loop .u) (c .before .loop-test .taken) in
+    let stands = standing (s .args .schema .now) (s .args .area .now) (s .pre .ready) (s .args .t) (s .pre .table) (c .before .before .before .rows-of .result) o in
+    let mask = c .unique-mask .ensures in
+    ((stands, rw (o .count-is) (s .pre .row)), (rw (o .width-is, mask .0) inside, mask .1))
 
 returns : tie.Need-returns Inv-loop μ-loop
 returns c =
     let s = c .before .before .before .before .before .before .before in
     let l = c .before .before .before .before .loop in
-    let f = masks-four (s .args .schema .now) (s .pre .0 .accepted) (s .args .t) (s .pre .1) in
+    let f = masks-four (s .args .schema .now) (s .pre .ready .accepted) (s .args .t) (s .pre .table) in
     let h = sym (c .before .mask-broken .ensures) ∙ c .if1 .taken in
     sym (l .inv .1 ∙ any-hit _ _ (l .u) (omega arith) 0 _ (c .before .before .unique-mask .ensures .0) h)
 
@@ -69,7 +70,7 @@ loop-again : tie.Need-loop-again Inv-loop μ-loop
 loop-again c =
     let s = c .before .before .before .before .before .before .before in
     let l = c .before .before .before .before .loop in
-    let f = masks-four (s .args .schema .now) (s .pre .0 .accepted) (s .args .t) (s .pre .1) in
+    let f = masks-four (s .args .schema .now) (s .pre .ready .accepted) (s .args .t) (s .pre .table) in
     let h = sym (c .before .mask-broken .ensures) ∙ c .if1 .left in
     (search needs, l .inv .1 ∙ any-miss _ _ (l .u) (omega arith) 0 _ (c .before .before .unique-mask .ensures .0) h)
 
@@ -77,7 +78,7 @@ returns-2 : tie.Need-returns-2 Inv-loop μ-loop
 returns-2 c =
     let s = c .before .before .before .before in
     let l = c .before .loop in
-    let f = masks-four (s .args .schema .now) (s .pre .0 .accepted) (s .args .t) (s .pre .1) in
+    let f = masks-four (s .args .schema .now) (s .pre .ready .accepted) (s .args .t) (s .pre .table) in
     sym (l .inv .1 ∙ any-none _ _ (l .u) (omega arith))
 
 pub unique-broken-spec : {M : Type 1} → statement M

@@ -4,10 +4,10 @@ use borrow.Author.Needs.{needs}
 use borrow.Author.Tests.{not-true, not-false}
 use Rattle.schema.specs.Records.{keyOf}
 use Rattle.schema.specs.Fields.{schemaOf}
 use Rattle.rows.proofs.TableLaws.{child-wide}
 use Rattle.rows.proofs.OrphanLaws.{full-due, orphan-undue, orphan-due}
-use Rattle.rows.proofs.is_orphan_image.Statement.{statement}
-use Rattle.rows.proofs.is_orphan_image.Tie as tie
+use Rattle.constraints.proofs.is_orphan_image.Statement.{statement}
+use Rattle.constraints.proofs.is_orphan_image.Tie as tie
 
 image-full-key-requires : tie.Need-image-full-key-requires
 image-full-key-requires c κs = child-wide _ _ _ _ _ (c .before .pre .1)

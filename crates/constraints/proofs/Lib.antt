@@ -1,0 +1,2 @@
+pub mod UniqueLaws
+pub mod ServedLaws

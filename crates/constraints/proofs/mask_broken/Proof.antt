@@ -1,0 +1,64 @@
+use Rattle.constraints.proofs.UniqueLaws.{mask-some, twice-except}
+use mathlib.Core.Path.{sym, _∙_}
+use borrow.Author.Needs.{needs}
+use borrow.Author.Tests.{not-true, not-false}
+use Rattle.rows.proofs.CellLaws.{widen}
+use Rattle.rows.proofs.MaskLaws.{mask-array, mask-null, mask-full, mask-none}
+use Rattle.constraints.proofs.mask_broken.Statement.{statement}
+use Rattle.constraints.proofs.mask_broken.Tie as tie
+
+returns : tie.Need-returns
+returns c = mask-none _ _ _ _ (c .if1 .taken)
+
+mask-count-requires : tie.Need-mask-count-requires
+mask-count-requires c κs = search needs
+
+mask-columns-requires : tie.Need-mask-columns-requires
+mask-columns-requires c κs = search needs
+
+image-full-key-requires : tie.Need-image-full-key-requires
+image-full-key-requires c κs =
+    let s = c .before .before .before in
+    let cs = c .mask-columns .result in
+    let k = c .before .mask-count .ensures .0 in
+    let g = c .mask-columns .ensures in
+    widen (s .pre .0 .0 .narrow) (mask-array (s .args .m) cs k g (search needs) (c .before .mask-count .ensures .1) (s .pre .1 .0))
+
+returns-2 : tie.Need-returns-2
+returns-2 c =
+    let s = c .before .before .before .before .before in
+    let cs = c .before .before .mask-columns .result in
+    let k = c .before .before .before .mask-count .ensures .0 in
+    let g = c .before .before .mask-columns .ensures in
+    let h = sym (c .before .image-full-key .ensures) ∙ not-true _ (c .if2 .taken) in
+    mask-null (s .args .m) cs k g _ _ _ (c .before .before .before .before .if1 .left) h
+
+other-with-key-requires : tie.Need-other-with-key-requires
+other-with-key-requires c κs =
+    let s = c .before .before .before .before .before .before .before .before in
+    let cs = c .before .before .before .before .before .mask-columns .result in
+    let k = c .before .before .before .before .before .before .mask-count .ensures .0 in
+    let g = c .before .before .before .before .before .mask-columns .ensures in
+    let columns = mask-array (s .args .m) cs k g (search needs) (c .before .before .before .before .before .before .mask-count .ensures .1) (s .pre .1 .0) in
+    (s .pre .0, (mask-some (s .args .m) (s .pre .1 .1) (c .before .before .before .before .before .before .before .if1 .left) k, (columns, widen (s .pre .0 .0 .narrow) columns)))
+
+returns-3 : tie.Need-returns-3
+returns-3 c =
+    let s = c .before .before .before .before .before .before .before .before .before in
+    let cs = c .before .before .before .before .before .before .mask-columns .result in
+    let k = c .before .before .before .before .before .before .before .mask-count .ensures .0 in
+    let g = c .before .before .before .before .before .before .mask-columns .ensures in
+    let full = sym (c .before .before .before .before .before .image-full-key .ensures) ∙ not-false _ (c .before .before .before .before .if2 .left) in
+    c .other-with-key .ensures ∙ twice-except _ _ _ _ ∙ mask-full (s .args .m) cs k g _ _ _ (c .before .before .before .before .before .before .before .before .if1 .left) full
+
+pub mask-broken-spec : {M : Type 1} → statement M
+mask-broken-spec =
+    tie.close
+    (tie.spec
+    returns
+    mask-count-requires
+    mask-columns-requires
+    image-full-key-requires
+    returns-2
+    other-with-key-requires
+    returns-3)

@@ -1,0 +1,89 @@
+// Constraints: unique keys, and whether a child row has its parent row.
+ghost use mathlib.Core.Path.{_≡_};
+ghost use mathlib.Core.List.{[]};
+ghost use Prim.Native.Nat.{_<_};
+ghost use lib.ListN.{getD};
+ghost use Rattle.schema.specs.Records.{tableOf, keyOf};
+ghost use Rattle.schema.specs.Fields.{schemaOf};
+ghost use Rattle.rules.specs.Lists;
+ghost use Rattle.rules.specs.Keys;
+ghost use Rattle.rules.specs.Change;
+ghost use Rattle.bridge.specs.Fit.{workOf};
+ghost use Rattle.bridge.specs.Ready.{Ready, Placed};
+ghost use Rattle.rows.specs.Standing.{Standing, rowsIn};
+ghost use Rattle.rows.specs.KeyColumns.{KeyColumns, MaskWithin, maskBroken};
+use rows::TableRows;
+
+// ---- unique keys
+
+// Whether an image for row r breaks the unique key of a mask.
+fn mask_broken(area: &[i64], table: TableRows, r: usize, image: [i64; 9], m: usize) -> bool
+    requires { ⌜ (Standing (now area) table × (r < table .count)) × (MaskWithin (table .width) m × (m < 256)) ⌝ }
+    ensures { λ x. ⌜ x ≡ maskBroken r image (rowsIn (now (area .entry)) table) m ⌝ }
+{
+    if m == 0 {
+        return false;
+    }
+    let n = rows::mask_count(m);
+    let cs = rows::mask_columns(m);
+    if !rows::image_full_key(image, n, cs) {
+        return false;
+    }
+    scans::other_with_key(area, table, r, &image, n, &cs, &cs)
+}
+
+// Whether an image for row r breaks a unique key of table t.
+pub fn unique_broken(schema: &[u8], area: &[i64], t: usize, r: usize, image: [i64; 9]) -> bool
+    requires { ⌜ Placed (now schema) (now area) t r ⌝ }
+    ensures { λ x. ⌜ x ≡ Change.uniqueBroken (tableOf (schemaOf (now (schema .entry))) t) r image (getD (workOf (schemaOf (now (schema .entry))) (now (area .entry)) .tabs) t []) ⌝ }
+{
+    let table = rows::rows_of(schema, t);
+    let mut u = 0;
+    while u < 4 {
+        let m = fields::unique_mask(schema, t, u);
+        if mask_broken(area, table, r, image, m) {
+            return true;
+        }
+        u += 1;
+    }
+    false
+}
+
+// ---- foreign keys
+
+// Whether a live parent row of foreign key k has the key of a child row's image.
+fn is_served(
+    schema: &[u8],
+    area: &[i64],
+    k: usize,
+    image: [i64; 9],
+    n: usize,
+    cs: [usize; 8],
+    ps: [usize; 8],
+) -> bool
+    requires { ⌜ Ready (now schema) (now area) × KeyColumns (now schema) k n cs ps ⌝ }
+    ensures { λ x. ⌜ x ≡ Lists.any (Keys.serves (keyOf (schemaOf (now (schema .entry))) k) image) (getD (workOf (schemaOf (now (schema .entry))) (now (area .entry)) .tabs) (keyOf (schemaOf (now (schema .entry))) k .parent) []) ⌝ }
+{
+    let t = fields::parent(schema, k);
+    let parents = rows::rows_of(schema, t);
+    scans::any_with_key(area, parents, &image, n, &ps, &cs)
+}
+
+// Whether the image of a child row of foreign key k is that of an orphan.
+pub fn is_orphan_image(
+    schema: &[u8],
+    area: &[i64],
+    k: usize,
+    image: [i64; 9],
+    n: usize,
+    cs: [usize; 8],
+    ps: [usize; 8],
+) -> bool
+    requires { ⌜ Ready (now schema) (now area) × KeyColumns (now schema) k n cs ps ⌝ }
+    ensures { λ x. ⌜ x ≡ Keys.orphan (keyOf (schemaOf (now (schema .entry))) k) (getD (workOf (schemaOf (now (schema .entry))) (now (area .entry)) .tabs) (keyOf (schemaOf (now (schema .entry))) k .parent) []) image ⌝ }
+{
+    if !rows::image_full_key(image, n, cs) {
+        return false;
+    }
+    !is_served(schema, area, k, image, n, cs, ps)
+}
