@@ -1,11 +1,11 @@
 -- The counted orphans as a list of 32 numbers, and how a movement adds to them.
 -- Assumes nothing.
 use mathlib.Core.Path.{_≡_, refl, _∙_, ap₂}
-use mathlib.Core.List.{List, [], _∷_, _++_, map}
-use Prim.Native.Nat.{ℕ, suc, _+_, _-_, _≤_}
+use mathlib.Core.List.{List, [], _∷_}
+use Prim.Native.Nat.{_≤_}
 use native.Mathlib.Omega.{arith}
-use lib.IntN.{ℤ, _+ℤ_, _-ℤ_, +ℤ-comm, -ℤ-+ℤ-cancel}
-use lib.ListN.{length, replicate, length-append, length-replicate, length-map}
+use lib.IntN.{ℤ, _-ℤ_, +ℤ-comm, -ℤ-+ℤ-cancel}
+use lib.ListN.{length, length-append, length-replicate, length-map}
 use Rattle.schema.specs.Records.{Schema}
 use Rattle.rules.specs.Lists.{less, plus}
 use Rattle.rules.specs.Rows.{Tables}

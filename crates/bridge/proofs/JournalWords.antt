@@ -1,14 +1,14 @@
 -- A journal record written to the book is a part of the area's words written.
 -- Assumes nothing.
-use mathlib.Core.Path.{_≡_, refl, sym, _∙_, ap, ap₂, subst}
-use mathlib.Core.Bool.{Bool, true, false}
+use mathlib.Core.Path.{_≡_, sym, _∙_, ap, ap₂}
+use mathlib.Core.Bool.{true}
 use mathlib.Core.List.{List, [], _∷_, _++_, map, map-append, reverse, reverse-cons, append-assoc}
-use Prim.Native.Nat.{ℕ, zero, suc, _+_, _-_, _*_, _≤_, _<_}
+use Prim.Native.Nat.{ℕ, zero, suc, _+_, _*_, _≤_, _<_}
 use native.Mathlib.Nat.{zero-mul, le-of-lt}
 use native.Mathlib.Omega.{arith}
 use lib.Dec.{eqb, eqb→eq}
 use lib.IntN.{ℤ, pos}
-use lib.ListN.{length, getD, set, take, drop, length-append, length-map, length-reverse}
+use lib.ListN.{length, getD, set, take, length-append, length-map, length-reverse}
 use lib.Seq.{set-append-seam, getD-append-seam}
 use Rattle.bridge.proofs.Tests.{all-head, all-tail, holds}
 use Rattle.bridge.proofs.Views.{splice, splice-right, flat-set}

@@ -1,23 +1,18 @@
 -- Where a row's words stand in an area.
 -- Assumes nothing.
-use mathlib.Core.Path.{_≡_, refl, sym, _∙_, ap, ap₂, subst}
-use mathlib.Core.Bool.{Bool, true, false}
-use mathlib.Core.List.{List, [], _∷_, _++_, map, reverse}
-use Prim.Native.Nat.{ℕ, zero, suc, _+_, _-_, _*_, _≤_, _<_}
-use native.Mathlib.Nat.{zero-mul, zero-add}
+use mathlib.Core.Path.{_≡_, refl, sym, _∙_, ap, ap₂}
+use mathlib.Core.List.{List, [], _∷_, _++_, map}
+use Prim.Native.Nat.{ℕ, zero, suc, _+_, _*_, _≤_, _<_}
+use native.Mathlib.Nat.{zero-mul}
 use native.Mathlib.Omega.{arith}
-use lib.Dec.{eqb→eq}
 use lib.IntN.{ℤ}
 use lib.ListN.{length, getD, take, drop, replicate, length-append, length-drop, length-map, length-replicate}
 use lib.Seq.{length-take-le, take-all}
 use Rattle.bridge.proofs.Shapes.{Shaped, widths, shapeOf}
-use Rattle.bridge.proofs.Tests.{all-head, all-tail, holds}
-use Rattle.bridge.proofs.Views.{rowStart, splice, withTabs, words-put}
+use Rattle.bridge.proofs.Views.{rowStart}
 use Rattle.rules.specs.Area.{tablesOf, words, view, rowPart}
-use Rattle.rules.specs.Book.{Book}
 use Rattle.rules.specs.Lists.{flat, chunks}
-use Rattle.rules.specs.Rows.{Row, Tables, rowAt, putRow}
-use Rattle.schema.specs.Ranges.{all}
+use Rattle.rules.specs.Rows.{Tables}
 use Rattle.schema.specs.Records.{Schema, Table, noTable, tableOf}
 use Rattle.schema.specs.Sizes.{tableSize, rowsSize, areaSize}
 

@@ -1,29 +1,29 @@
 -- A book of the right sizes is the view of its words.
 -- Assumes nothing.
-use mathlib.Core.Path.{_≡_, refl, sym, _∙_, ap, ap₂, subst}
-use mathlib.Core.Bool.{Bool, true, false, _&&_, false≢true}
+use mathlib.Core.Path.{_≡_, refl, sym, _∙_, ap, ap₂}
+use mathlib.Core.Bool.{Bool, true, false, false≢true}
 use mathlib.Core.List.{List, [], _∷_, _++_, map, reverse, reverseAux, reverse-reverse}
-use Prim.Native.Nat.{ℕ, zero, suc, min, _+_, _-_, _*_, _/_, _%_, _≤_, _<_}
+use Prim.Native.Nat.{ℕ, zero, suc, _+_, _-_, _*_, _/_, _%_, _≤_, _<_}
 use native.Mathlib.Nat.{zero-mul}
 use native.Mathlib.Omega.{arith}
-use lib.Dec.{T, leb, ltb, eqb, leb→le, le→leb, ltb→lt, lt→ltb, eqb→eq, eqb-refl}
-use lib.IntN.{ℤ, pos, negsuc, natAbs}
-use lib.ListN.{length, getD, set, take, drop, replicate, length-map, length-reverse, length-append, length-replicate, length-take, length-drop, replicate-append-replicate}
+use lib.Dec.{leb, ltb, eqb, leb→le, le→leb, ltb→lt, lt→ltb, eqb→eq, eqb-refl}
+use lib.IntN.{ℤ}
+use lib.ListN.{length, getD, take, drop, replicate, length-map, length-reverse, length-append, length-replicate, length-take, length-drop, replicate-append-replicate}
 use lib.Seq.{take-at, drop-at, length-take-le}
 use Rattle.bridge.proofs.Books.{sized, book-path, work-path}
 use Rattle.bridge.proofs.Offsets.{shaped-view}
 use Rattle.bridge.proofs.Shapes.{Shaped, widths, shapeOf}
-use Rattle.bridge.proofs.Tests.{all-drop, all-head, all-tail, all-cons, all-append, holds, passes, and-both}
+use Rattle.bridge.proofs.Tests.{all-drop, all-head, all-tail, all-cons, all-append, holds, passes}
 use Rattle.bridge.proofs.Undo.{nine}
 use Rattle.bridge.proofs.Views.{length-chunks}
 use Rattle.rules.specs.Area.{tablesOf, levelWords, entryWords, levelOf, entryOf, words, levelPart, rowPart, recordPart, view, naturalHead, legible, freshWords}
-use Rattle.rules.specs.Book.{Entry, Level, Book, zeroLevels, zeroRecords, blank, fresh}
+use Rattle.rules.specs.Book.{Entry, Level, Book, zeroLevels, blank, fresh}
 use Rattle.rules.specs.Lists.{𝟘, flat, chunks}
-use Rattle.rules.specs.Rows.{Row, Tables}
+use Rattle.rules.specs.Rows.{Tables}
 use Rattle.rules.specs.Values.{natOf, sameValue, natural}
 use Rattle.schema.proofs.RangeLaws.{every-at, every-nil, every-cons}
 use Rattle.schema.specs.Ranges.{all, every}
-use Rattle.schema.specs.Records.{Schema, Table, tableOf}
+use Rattle.schema.specs.Records.{Schema, Table}
 use Rattle.schema.specs.Sizes.{tableSize, rowsSize, areaSize}
 
 -- every list has k elements

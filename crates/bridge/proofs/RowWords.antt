@@ -1,32 +1,29 @@
 -- Rows and records, read and written by an area's words.
 -- Assumes nothing.
-use mathlib.Core.Path.{_≡_, refl, sym, _∙_, ap, ap₂, subst}
-use mathlib.Core.Bool.{Bool, true, false}
+use mathlib.Core.Path.{_≡_, refl, sym, _∙_, ap, ap₂}
 use mathlib.Core.List.{List, [], _∷_, _++_, map, reverse, append-assoc}
-use Prim.Native.Nat.{ℕ, zero, suc, _+_, _-_, _*_, _%_, _≤_, _<_, min}
+use Prim.Native.Nat.{ℕ, zero, suc, _+_, _-_, _*_, _≤_, _<_}
 use native.Mathlib.Nat.{zero-mul, zero-add, mul-le-mul-right, suc-mul}
 use native.Mathlib.Omega.{arith}
 use lib.Dec.{ltb, eqb, leb→le, lt→ltb}
 use lib.IntN.{ℤ, pos}
-use lib.ListN.{length, getD, set, take, drop, replicate, length-append, length-map, length-reverse, length-take, length-drop, length-set, length-replicate, List·getD-map, take-append-drop}
+use lib.ListN.{length, getD, set, take, drop, replicate, length-append, length-map, length-reverse, length-take, length-drop, length-set, length-replicate, List·getD-map}
 use lib.Seq.{sets, sets-eq, length-sets, length-take-le, take-take, take-nil, drop-drop, drop-cons}
 use Rattle.bridge.proofs.JournalWords.{records, pushed, journalStart, words-push}
 use Rattle.bridge.proofs.Offsets.{rowOffset, row-start}
 use Rattle.bridge.proofs.RoundTrip.{Formed, formed-view, shortRow, levelList, recordList, records-sized, of-size, levels-length, tables-are, view-words, legible-words, words-length}
-use Rattle.bridge.proofs.Shapes.{Shaped, widths, shapeOf, width-at, length-overwrite, widths-put, nine-words, rows-short}
+use Rattle.bridge.proofs.Shapes.{Shaped, shapeOf, length-overwrite, widths-put, nine-words, rows-short}
 use Rattle.bridge.proofs.Tests.{all-cons, all-drop, holds, passes}
 use Rattle.bridge.proofs.Undo.{nine}
-use Rattle.bridge.proofs.Views.{splice, rowStart, withTabs, words-put, words-view, length-chunks}
+use Rattle.bridge.proofs.Views.{splice, rowStart, words-put, words-view, length-chunks}
 use Rattle.bridge.specs.Fit.{workOf, Fit, Keeps}
-use Rattle.rules.specs.Area.{tablesOf, levelWords, entryWords, entryOf, words, levelPart, rowPart, recordPart, view, legible}
+use Rattle.rules.specs.Area.{tablesOf, levelWords, entryWords, words, rowPart, recordPart, view, legible}
 use Rattle.rules.specs.Book.{Entry, Work, Book, entry, write, withWork}
-use Rattle.rules.specs.Calls.{inTable}
 use Rattle.rules.specs.Lists.{𝟘, padded, flat, chunks}
-use Rattle.rules.specs.Rows.{Row, Tables, rowAt, putRow, image, overwrite}
+use Rattle.rules.specs.Rows.{Row, Tables, rowAt, image, overwrite}
 use Rattle.rules.specs.Values.{natOf}
 use Rattle.schema.proofs.RangeLaws.{every-at}
 use Rattle.schema.proofs.SchemaLaws.{Valid}
-use Rattle.schema.specs.Ranges.{all}
 use Rattle.schema.specs.Records.{Schema, Table, noTable, tableOf}
 use Rattle.schema.specs.Sizes.{tableSize, rowsSize, areaSize}
 

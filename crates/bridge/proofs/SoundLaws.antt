@@ -1,7 +1,7 @@
 -- What an area that refusal 10 lets pass is.
 -- Assumes nothing.
-use mathlib.Core.Path.{_≡_, refl, sym, _∙_, ap, subst}
-use mathlib.Core.Bool.{Bool, true, false, _&&_}
+use mathlib.Core.Path.{_≡_, sym, _∙_, ap}
+use mathlib.Core.Bool.{Bool, true, _&&_}
 use mathlib.Core.List.{List, [], _∷_}
 use Prim.Native.Nat.{ℕ, zero, suc, _≤_}
 use native.Mathlib.Omega.{arith}
@@ -11,12 +11,15 @@ use lib.ListN.{length, drop}
 use Rattle.schema.specs.Ranges.{all}
 use Rattle.schema.specs.Records.{Schema}
 use Rattle.schema.specs.Fields.{schemaOf}
+use Rattle.schema.specs.Sizes.{areaSize}
+use Rattle.schema.specs.Check.{checkSchema}
+use Rattle.schema.specs.declared.SchemaAnswer.the-variants.{Accepted}
 use Rattle.schema.proofs.RangeLaws.{and-left, and-right}
 use Rattle.rules.specs.Book.{Level, Book}
 use Rattle.rules.specs.State.{inTransaction, openerFits, keptInRange, savedInRange, usesRise, placed, undamaged}
-use Rattle.rules.specs.Area.{view}
+use Rattle.rules.specs.Area.{view, legible}
 use Rattle.bridge.specs.Fit.{workOf}
-use Rattle.bridge.specs.Ready.{Ready, Undoable, Sound}
+use Rattle.bridge.specs.Ready.{Undoable, Sound}
 use Rattle.bridge.proofs.Tests.{all-head, all-drop, holds}
 
 pub record Parts (s : Schema) (b : Book) : Type 0 where
@@ -42,6 +45,14 @@ parts {s} {b} h =
       saved = and-right (t₁ && t₂) t₃ h₃;
       uses = and-right (t₁ && t₂ && t₃) t₄ h₄;
       places = and-right (t₁ && t₂ && t₃ && t₄) (all (placed s) (b .work .used)) h;
+    }
+
+-- an area that refusal 10 lets pass
+pub sound-area : (b : List ℕ) (a : List ℤ) → checkSchema b ≡ Accepted → length a ≡ areaSize (schemaOf b) → legible (schemaOf b) a && undamaged (schemaOf b) (view (schemaOf b) a) ≡ true → Sound b a
+sound-area b a accepted size e =
+    record {
+      ready = record { accepted = accepted; fit = record { size = size; legible-is = and-left (legible (schemaOf b) a) _ e } };
+      undamaged-is = and-right (legible (schemaOf b) a) _ e;
     }
 
 pub undoable : {b : List ℕ} {a : List ℤ} → Sound b a → Undoable b a

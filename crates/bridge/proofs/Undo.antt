@@ -1,9 +1,9 @@
 -- What a row change writes to the journal undoes it.
 -- Assumes nothing.
-use mathlib.Core.Path.{_≡_, refl, sym, _∙_, ap, ap₂}
+use mathlib.Core.Path.{_≡_, refl, sym, _∙_, ap}
 use mathlib.Core.Bool.{Bool, true, false, _&&_, false≢true}
 use mathlib.Core.List.{List, [], _∷_, _++_, append-assoc}
-use Prim.Native.Nat.{ℕ, zero, suc, _+_, _-_, _<_}
+use Prim.Native.Nat.{ℕ, zero, suc, _-_, _<_}
 use native.Mathlib.Omega.{arith}
 use lib.IntN.{ℤ}
 use lib.Seq.{take-append-seam, drop-append-seam, length-take-le}
@@ -14,7 +14,6 @@ use Rattle.bridge.proofs.Tests.{all-cons, all-append, all-head, all-tai
 use Rattle.rules.specs.Book.{Entry, Work, entry, write, undoOne, undoAll, undo, undoTo, zeroRecords}
 use Rattle.rules.specs.Calls.{inTable}
 use Rattle.rules.specs.Change.{Result, go, stop, then, given, Change, taken, rowTurn, children, keyTurn, actions, admits, admitted, change}
-use Rattle.rules.specs.Keys.{fires}
 use Rattle.rules.specs.Lists.{𝟘, padded, upFrom}
 use Rattle.rules.specs.Refusals.{failing, number}
 use Rattle.rules.specs.declared.Verdict.{Verdict}

@@ -1,33 +1,31 @@
 -- The newest record undone, by an area's words.
 -- Assumes nothing.
-use mathlib.Core.Path.{_≡_, refl, sym, _∙_, ap, ap₂, subst}
-use mathlib.Core.Bool.{Bool, true, false}
+use mathlib.Core.Path.{_≡_, refl, sym, _∙_, ap, ap₂}
+use mathlib.Core.Bool.{true}
 use mathlib.Core.List.{List, [], _∷_, _++_, map, map-append, reverse, reverse-cons, reverse-append, append-assoc}
-use Prim.Native.Nat.{ℕ, zero, suc, _+_, _-_, _*_, _/_, _%_, _≤_, _<_, min}
-use native.Mathlib.Nat.{zero-mul, zero-add, le-of-lt}
+use Prim.Native.Nat.{ℕ, zero, suc, _+_, _-_, _*_, _/_, _%_, _≤_, _<_}
+use native.Mathlib.Nat.{le-of-lt}
 use native.Mathlib.Omega.{arith}
-use lib.Dec.{ltb, eqb, leb→le, ltb→lt, lt→ltb, eqb→eq}
+use lib.Dec.{eqb, leb→le, eqb→eq}
 use lib.IntN.{ℤ, pos}
-use lib.ListN.{length, getD, set, take, drop, replicate, length-append, length-map, length-reverse, length-take, length-drop, length-set, length-replicate}
-use lib.Seq.{sets, length-sets, length-take-le, set-append-seam, getD-append-seam, take-suc, drop-cons, drop-drop, take-all}
+use lib.ListN.{length, getD, set, take, drop, replicate, length-append, length-map, length-reverse, length-take, length-drop, length-set}
+use lib.Seq.{sets, length-take-le, set-append-seam, take-suc, drop-cons, drop-drop}
 use Rattle.bridge.proofs.JournalWords.{records, journalStart, flat-sized, sized-at}
 use Rattle.bridge.proofs.Offsets.{rowOffset, row-start}
 use Rattle.bridge.proofs.RoundTrip.{Formed, shortRow, levelList, recordList, records-sized, of-size, levels-length, tables-are}
-use Rattle.bridge.proofs.RowWords.{row-fits, getD-chunks, part-take, sets-splice, formed-fit, use-is, keeps-words, tabs-length, rows-length, row-width, overwrite-take, offset-fits}
+use Rattle.bridge.proofs.RowWords.{row-fits, getD-chunks, sets-splice, formed-fit, keeps-words, tabs-length, rows-length, row-width, overwrite-take, offset-fits}
 use Rattle.bridge.proofs.Shapes.{Shaped, length-overwrite, widths-put}
-use Rattle.bridge.proofs.Tests.{all-cons, all-head, all-tail, all-drop, holds, passes}
+use Rattle.bridge.proofs.Tests.{all-cons, all-head, all-tail, all-drop, holds}
 use Rattle.bridge.proofs.Undo.{nine}
-use Rattle.bridge.proofs.Views.{splice, splice-right, rowStart, withTabs, words-put, words-view, flat-set, length-chunks}
+use Rattle.bridge.proofs.Views.{splice, splice-right, rowStart, words-put, words-view, flat-set, length-chunks}
 use Rattle.bridge.specs.Fit.{workOf, Fit, Keeps}
 use Rattle.rules.specs.Area.{levelWords, entryWords, entryOf, words, rowPart, recordPart, view, legible}
 use Rattle.rules.specs.Book.{Entry, Work, Book, undoOne, undoAll, undo, undoTo, zeroRecords, withWork}
-use Rattle.rules.specs.Calls.{inTable}
-use Rattle.rules.specs.Lists.{𝟘, flat, chunks}
-use Rattle.rules.specs.Rows.{Row, Tables, rowAt, putRow, overwrite}
+use Rattle.rules.specs.Lists.{𝟘, flat}
+use Rattle.rules.specs.Rows.{Row, rowAt, overwrite}
 use Rattle.rules.specs.State.{placed}
 use Rattle.rules.specs.Values.{natOf}
 use Rattle.schema.proofs.RangeLaws.{every-at}
-use Rattle.schema.proofs.SchemaLaws.{Valid}
 use Rattle.schema.specs.Ranges.{all}
 use Rattle.schema.specs.Records.{Schema, Table, noTable, tableOf}
 use Rattle.schema.specs.Sizes.{rowsSize, areaSize}

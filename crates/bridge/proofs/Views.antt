@@ -1,18 +1,18 @@
 -- The view of an area's words is without loss.
 -- Assumes nothing.
-use mathlib.Core.Path.{_≡_, refl, sym, _∙_, ap, ap₂, subst}
-use mathlib.Core.Bool.{Bool, true, false, false≢true}
+use mathlib.Core.Path.{_≡_, refl, sym, _∙_, ap, ap₂}
+use mathlib.Core.Bool.{true, false, false≢true}
 use mathlib.Core.List.{List, [], _∷_, _++_, map, reverse, reverse-reverse, append-assoc, append-nil}
-use Prim.Native.Nat.{ℕ, zero, suc, _+_, _-_, _*_, _/_, _%_, _≤_, _<_, min}
+use Prim.Native.Nat.{ℕ, zero, suc, _+_, _-_, _*_, _≤_, _<_}
 use native.Mathlib.Nat.{div-add-mod', add-assoc, zero-add, add-zero}
 use native.Mathlib.Omega.{arith}
 use lib.Dec.{leb, eqb, leb→le, eqb→eq}
-use lib.IntN.{ℤ, pos, negsuc, natAbs}
+use lib.IntN.{ℤ, pos, negsuc}
 use lib.ListN.{length, getD, set, take, drop, take-append-drop, length-take, length-drop, length-map, length-reverse, length-append, List·getD-map}
-use lib.Seq.{set-append-seam, take-append-add, drop-append-add, take-append-le, drop-append-le, drop-length, take-all, drop-cons, take-add, length-take-le}
+use lib.Seq.{set-append-seam, take-append-add, drop-append-add, take-append-le, drop-append-le, drop-length, length-take-le}
 use Rattle.bridge.proofs.Tests.{all-head, all-tail, holds}
 use Rattle.rules.specs.Area.{tablesOf, levelWords, entryWords, levelOf, entryOf, words, levelPart, rowPart, recordPart, view, naturalHead, legible}
-use Rattle.rules.specs.Book.{Entry, Level, Book}
+use Rattle.rules.specs.Book.{Book}
 use Rattle.rules.specs.Lists.{𝟘, flat, chunks}
 use Rattle.rules.specs.Rows.{Row, Tables, rowAt, putRow}
 use Rattle.rules.specs.Values.{natOf, sameValue, natural}

@@ -14,7 +14,6 @@ use Rattle.schema.specs.Records.{Schema, tableOf}
 use Rattle.schema.specs.Sizes.{areaSize}
 use Rattle.schema.specs.Fields.{schemaOf}
 use Rattle.schema.specs.Check.{checkSchema}
-use Rattle.schema.proofs.RangeLaws.{and-left, and-right}
 use Rattle.rules.specs.declared.Answer.the-variants.{Done, Refused}
 use Rattle.rules.specs.declared.Refusal.the-variants.{SchemaMalformed, SchemaUnmatched, WrongLength, BadCall, Damaged, RowState}
 use Rattle.rules.specs.Lists.{𝟘}
@@ -99,14 +98,6 @@ module _ (s : Schema) (c a : List ℤ) where
     pub carried : {d : Call} → Read s c d → legible s a ≡ true → undamaged s (view s a) ≡ true → onWords (act s d (view s a)) ≡ areaStep s c a
     unfolding areaStep ensure step check
     carried q l u = rw (eq-eqb (length a) (areaSize s) size, q .allowed-is, l, u, q .parsed-is) refl
-
--- an area that refusal 10 lets pass
-pub sound-area : (b : List ℕ) (a : List ℤ) → checkSchema b ≡ Accepted → length a ≡ areaSize (schemaOf b) → legible (schemaOf b) a && undamaged (schemaOf b) (view (schemaOf b) a) ≡ true → Sound b a
-sound-area b a k n e =
-    record {
-      ready = record { accepted = k; fit = record { size = n; legible-is = and-left (legible (schemaOf b) a) _ e } };
-      undamaged-is = and-right (legible (schemaOf b) a) _ e;
-    }
 
 -- ---- what was read
 module _ (s : Schema) (c : List ℤ) where

@@ -1,21 +1,20 @@
 -- What a rollback gives does not change as calls are made after the level opened.
 -- Assumes nothing.
 use mathlib.Core.Path.{_≡_, refl, sym, _∙_, ap, ap₂, subst}
-use mathlib.Core.Bool.{Bool, true, false, false≢true, true≢false}
-use mathlib.Core.List.{List, [], _∷_, _++_, append-assoc, append-nil}
+use mathlib.Core.Bool.{true, false, false≢true, true≢false}
+use mathlib.Core.List.{List, [], _∷_, _++_, append-assoc}
 use Prim.Native.Nat.{ℕ, zero, suc, _+_, _-_, _≤_, _<_}
 use native.Mathlib.Omega.{arith}
 use native.Mathlib.Nat.{zero-add}
 use lib.Dec.{eqb, eqb→eq}
 use lib.IntN.{ℤ}
-use lib.ListN.{length, take, drop, replicate, length-append, length-drop, length-replicate, replicate-append-replicate}
-use lib.Seq.{take-append-add, drop-append-add, drop-drop, take-add, take-length, drop-length, take-all}
+use lib.ListN.{length, take, drop, replicate, length-append, length-drop, replicate-append-replicate}
+use lib.Seq.{take-append-add, drop-append-add, drop-drop, take-add}
 use Rattle.bridge.proofs.Shapes.{Shaped}
 use Rattle.bridge.proofs.Tests.{holds}
 use Rattle.bridge.proofs.Undo.{Undoes, undoAll-append, nine}
-use Rattle.rules.specs.Book.{Entry, Level, Work, Book, zeroRecords, zeroLevels, undoAll, undo, undoTo, emptied, cleared, close, backTo, back, firstKept, ended, abort, push}
+use Rattle.rules.specs.Book.{Level, Work, Book, zeroRecords, zeroLevels, undoAll, undo, undoTo, emptied, close, backTo, back, firstKept, ended, abort, push}
 use Rattle.rules.specs.Keys.{counts}
-use Rattle.rules.specs.Rows.{Tables}
 use Rattle.rules.specs.State.{inTransaction, openerFits, keptInRange, savedInRange, placed}
 use Rattle.schema.specs.Ranges.{all}
 use Rattle.schema.specs.Records.{Schema}

@@ -1,36 +1,35 @@
 -- Demand 3: what is left when refused calls, and rollbacks with what they undid, are struck out, gets the same answers and ends in the same area.
 -- Assumes nothing.
 use mathlib.Core.Path.{_≡_, refl, sym, _∙_, ap, subst}
-use mathlib.Core.Bool.{Bool, true}
-use mathlib.Core.Logic.{_⊎_, inl, inr}
-use mathlib.Core.List.{List, [], _∷_}
+use mathlib.Core.Bool.{true}
+use mathlib.Core.Logic.{inl, inr}
+use mathlib.Core.List.{List, []}
 use Prim.Native.Nat.{ℕ, _<_}
 use native.Mathlib.Omega.{arith}
-use lib.IntN.{ℤ, pos}
-use lib.ListN.{length, getD}
+use lib.IntN.{ℤ}
+use lib.ListN.{length}
 use Rattle.schema.specs.Records.{Schema}
 use Rattle.schema.specs.Fields.{schemaOf}
 use Rattle.schema.specs.Check.{checkSchema}
 use Rattle.schema.specs.declared.SchemaAnswer.the-variants.{Accepted}
 use Rattle.schema.proofs.SchemaLaws.{Valid, valid, accepted-formed}
 use Rattle.rules.specs.declared.Answer.{Answer}
-use Rattle.rules.specs.Lists.{𝟘}
 use Rattle.rules.specs.Refusals.{accepted}
 use Rattle.rules.specs.Values.{allZero, natOf}
 use Rattle.rules.specs.Keys.{counts}
 use Rattle.rules.specs.Book.{Book, fresh}
 use Rattle.rules.specs.State.{inTransaction}
 use Rattle.rules.specs.Step.{step, run, Logged}
-use Rattle.rules.specs.Area.{words, view, areaStep, areaRun, freshWords}
+use Rattle.rules.specs.Area.{words, view, freshWords}
 use Rattle.rules.specs.Engine.{callOn, runOn}
-use Rattle.rules.specs.Strike.{Struck, strike, callsOf, commitWords, releaseWords, IsCommit, keptWords, countedWords, endOf, Demand3}
+use Rattle.rules.specs.Strike.{strike, callsOf, IsCommit, keptWords, countedWords, endOf, Demand3}
 use Rattle.bridge.proofs.RoundTrip.{view-words, kept-is, word-1, words-fresh}
 use Rattle.laws.specs.Regular.{regularAnswer}
 use Rattle.laws.proofs.Back.{Good, some-open}
 use Rattle.laws.proofs.Good.{good-fresh}
 use Rattle.laws.proofs.Formed.{good-formed}
 use Rattle.laws.proofs.Outcome.{outcome, outcome-regular}
-use Rattle.laws.proofs.Struck.{Inv, Reach, empty, invariant, commit-judged, release-judged}
+use Rattle.laws.proofs.Struck.{Inv, empty, invariant, commit-judged, release-judged}
 use Rattle.laws.proofs.Areas.{area-step, area-run, call-is, run-is}
 
 -- from the words of a good book outside a transaction

@@ -1,22 +1,22 @@
 -- Every call leaves a good book good; and what each call can come to.
 -- Assumes nothing.
 use mathlib.Core.Path.{_≡_, refl, sym, _∙_, ap, ap₂, subst}
-use mathlib.Core.Bool.{Bool, true, false, not, false≢true, true≢false}
+use mathlib.Core.Bool.{true, false, false≢true}
 use mathlib.Core.List.{List, [], _∷_, _++_, map}
 use Prim.Native.Nat.{ℕ, zero, suc, _+_, _-_, _≤_, _<_}
 use native.Mathlib.Omega.{arith}
 use lib.Dec.{leb, eqb, le→leb}
 use lib.IntN.{ℤ, pos}
-use lib.ListN.{length, drop, getD, length-drop, replicate, length-append, length-replicate, length-map, replicate-append-replicate}
+use lib.ListN.{length, drop, getD, length-drop, replicate, length-append, length-replicate, replicate-append-replicate}
 use Rattle.bridge.proofs.Books.{sized, work-path, book-path}
-use Rattle.bridge.proofs.Shapes.{Shaped, shaped-fresh}
+use Rattle.bridge.proofs.Shapes.{shaped-fresh}
 use Rattle.bridge.proofs.Tests.{and-both, passes, all-cons, all-append, all-drop}
 use Rattle.bridge.proofs.Undo.{Undoes, nine, shaped-after}
 use Rattle.laws.proofs.Back.{Good, Uses, some-open, moved, unused, clean-rest}
 use Rattle.rules.specs.Book.{Level, Work, Book, zeroRecords, zeroLevels, emptied, cleared, close, ended, blank, fresh, push}
 use Rattle.rules.specs.Keys.{counts, orphans, orphan, due, fullKey}
-use Rattle.rules.specs.Lists.{𝟘, less, plus, count}
-use Rattle.rules.specs.Rows.{Tables, Row, live, liveState}
+use Rattle.rules.specs.Lists.{𝟘, count}
+use Rattle.rules.specs.Rows.{Row, live, liveState}
 use Rattle.rules.specs.State.{inTransaction, openerFits, keptInRange, savedInRange, placed, usesRise, undamaged}
 use Rattle.rules.specs.Statement.{afterStatement, journalAfter}
 use Rattle.rules.specs.Values.{natOf, sameValue, inRange}

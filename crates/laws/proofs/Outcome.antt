@@ -1,33 +1,32 @@
 -- What a call can come to.
 -- Assumes nothing.
-use mathlib.Core.Path.{_≡_, refl, sym, _∙_, ap, ap₂, subst}
-use mathlib.Core.Bool.{Bool, true, false, not, _&&_, false≢true, true≢false}
-use mathlib.Core.List.{List, [], _∷_, _++_, map}
-use Prim.Native.Nat.{ℕ, zero, suc, _+_, _-_, _≤_, _<_}
+use mathlib.Core.Path.{_≡_, refl, sym, _∙_, ap}
+use mathlib.Core.Bool.{Bool, true, false, _&&_, true≢false}
+use mathlib.Core.List.{List, [], _∷_}
+use Prim.Native.Nat.{ℕ, suc, _-_, _≤_, _<_}
 use mathlib.Core.Logic.{_≢_}
 use native.Mathlib.Omega.{arith}
 use borrow.Author.Tests.{leb-true, ne-eqb}
-use lib.Dec.{T, leb, eqb, leb→le, eqb→eq}
-use lib.IntN.{ℤ, pos}
-use lib.ListN.{length, drop, length-drop, drop-of-length-le}
+use lib.Dec.{leb, eqb, leb→le, eqb→eq}
+use lib.IntN.{ℤ}
+use lib.ListN.{length, drop-of-length-le}
 use Rattle.bridge.proofs.CountBounds.{counts-in-range}
 use Rattle.bridge.proofs.Counts.{kept-counted}
 use Rattle.bridge.proofs.Tests.{holds, fails}
 use Rattle.bridge.proofs.Undo.{Undoes, Fine, went, stopped, ofChange, fine-change, shaped-after}
-use Rattle.laws.proofs.Back.{Good, moved, unused, length-zero}
+use Rattle.laws.proofs.Back.{Good, moved, unused}
 use Rattle.laws.proofs.Good.{cleared-is, good-alone, good-undamaged}
 use Rattle.laws.specs.Regular.{regular, regularAnswer}
-use Rattle.rules.specs.Book.{Level, Work, Book, cleared, close, back, ended, abort, push}
+use Rattle.rules.specs.Book.{Work, Book, close, back, ended, abort, push}
 use Rattle.rules.specs.Calls.{Call, malformed, insert, update, delete, begin, savepoint, release, rollbackTo, rollback, commit, inTable, parse, allowed}
-use Rattle.rules.specs.Change.{Result, go, stop, change}
+use Rattle.rules.specs.Change.{Result, change}
 use Rattle.rules.specs.Keys.{counts}
-use Rattle.rules.specs.Lists.{𝟘, less, plus}
+use Rattle.rules.specs.Lists.{less, plus}
 use Rattle.rules.specs.Refusals.{number}
-use Rattle.rules.specs.State.{inTransaction, levelOpen, undamaged, openerFits, keptInRange}
+use Rattle.rules.specs.State.{inTransaction, levelOpen, openerFits, keptInRange}
 use Rattle.rules.specs.Statement.{Turn, check, demand, afterStatement, journalAfter, settle, conclude, statement, rowStatement}
 use Rattle.rules.specs.Step.{opened, openerOf, committed, rolled, released, act, step, Logged}
 use Rattle.rules.specs.Strike.{Struck, joined, place}
-use Rattle.rules.specs.declared.Answer.{Answer}
 use Rattle.rules.specs.declared.Answer.the-variants.{Done, Refused}
 use Rattle.rules.specs.declared.Refusal.{Refusal}
 use Rattle.schema.proofs.RangeLaws.{and-left, and-right}

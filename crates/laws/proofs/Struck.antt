@@ -1,22 +1,22 @@
 -- What is left when refused calls and what rollbacks undid are struck out has the same answers, and ends in the same book.
 -- Assumes nothing.
-use mathlib.Core.Path.{_≡_, refl, sym, _∙_, ap, ap₂, subst, subst₂}
-use mathlib.Core.Bool.{Bool, true, false, not}
-use mathlib.Core.List.{List, [], _∷_, _++_, map, map-append}
+use mathlib.Core.Path.{_≡_, refl, sym, _∙_, ap, subst}
+use mathlib.Core.Bool.{Bool, true, false}
+use mathlib.Core.List.{List, [], _∷_, _++_, map-append}
 use Prim.Native.Nat.{ℕ, zero, suc, pred, _+_, _-_, _≤_, _<_}
 use native.Mathlib.Omega.{arith}
 use native.Mathlib.Nat.{zero-add, add-zero}
 use lib.Dec.{leb, le→leb}
 use lib.IntN.{ℤ}
-use lib.ListN.{length, drop, take, getD, length-append, length-drop, length-take}
+use lib.ListN.{length, drop, take, getD, length-append, length-drop}
 use lib.Seq.{take-append-le, take-take, take-length, take-append-seam, getD-drop, length-take-le}
 use Rattle.bridge.proofs.Tests.{passes}
 use Rattle.bridge.proofs.Undo.{Undoes}
-use Rattle.laws.proofs.Back.{Good, moved, some-open, unused, length-zero, open-some, back-moved, abort-moved, back-push-top, back-push, abort-push, abort-push-first, back-close, abort-close, back-back, abort-back, levels-back}
+use Rattle.laws.proofs.Back.{Good, moved, some-open, length-zero, open-some, back-moved, abort-moved, back-push-top, back-push, abort-push, abort-push-first, back-close, abort-close, back-back, abort-back, levels-back}
 use Rattle.laws.proofs.Good.{good-moved, good-push, good-close, good-ended, good-undamaged}
 use Rattle.laws.proofs.Outcome.{Outcome, refusal, moving, alone, opening, closing, ending, backing, aborting, outcome}
-use Rattle.rules.specs.Book.{Level, Work, Book, close, back, ended, abort, push}
-use Rattle.rules.specs.Calls.{Call, rollbackTo, release, rollback, malformed, insert, update, delete, begin, savepoint, commit, formedIf, parsed, parse, levelNumber, allowed}
+use Rattle.rules.specs.Book.{Work, Book, close, back, ended, abort, push}
+use Rattle.rules.specs.Calls.{Call, release, rollback, commit, formedIf, parsed, parse, levelNumber, allowed}
 use Rattle.rules.specs.Keys.{counts}
 use Rattle.rules.specs.Lists.{𝟘}
 use Rattle.rules.specs.Refusals.{accepted}
@@ -27,7 +27,7 @@ use Rattle.rules.specs.Strike.{Struck, joined, place, mark, marks, strike, call
 use Rattle.rules.specs.Values.{allZero, natural, natOf, sameValue}
 use Rattle.schema.specs.Ranges.{all}
 use Rattle.rules.specs.declared.Answer.{Answer}
-use Rattle.rules.specs.declared.Answer.the-variants.{Done, Refused}
+use Rattle.rules.specs.declared.Answer.the-variants.{Done}
 use Rattle.rules.specs.declared.Refusal.the-variants.{CommitWithOrphans}
 use Rattle.schema.proofs.SchemaLaws.{Valid}
 use Rattle.schema.specs.Records.{Schema}

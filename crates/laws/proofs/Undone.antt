@@ -1,6 +1,6 @@
 -- Undo: undoing the records of a row change, newest first, gives back the rows; whether it was accepted or refused half way.
 -- Assumes nothing.
-use mathlib.Core.Path.{_≡_, ap, _∙_}
+use mathlib.Core.Path.{_≡_, ap}
 use mathlib.Core.Bool.{true}
 use Prim.Native.Nat.{ℕ}
 use lib.ListN.{length}

@@ -1,7 +1,7 @@
 -- Lines of the paper's example.
 -- Assumes nothing.
 use mathlib.Core.Path.{_≡_, refl}
-use mathlib.Core.List.{List, [], _∷_}
+use mathlib.Core.List.{[], _∷_}
 use lib.IntN.{pos, negsuc}
 use Rattle.lines.specs.Text.{decimalUpTo, decimal, signedText, answerLine, tallyLine}
 

@@ -12,7 +12,6 @@ use lib.IntN.{ℤ}
 use lib.ListN.{length, getD}
 use Rattle.schema.specs.Records.{ForeignKey, noKey}
 use Rattle.schema.specs.Fields.{schemaOf}
-use Rattle.rules.specs.declared.Orphan.{Orphan}
 use Rattle.rules.specs.Lists.{count, one}
 use Rattle.rules.specs.Values.{natOf}
 use Rattle.rules.specs.Rows.{Row, Tables, rowAt, live, liveState}

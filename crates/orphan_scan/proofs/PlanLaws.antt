@@ -1,7 +1,7 @@
 -- The checks of the orphan list in their order: what each finds is the verdict.
 -- Assumes nothing.
 use mathlib.Core.Path.{_≡_, refl, sym, subst}
-use mathlib.Core.Bool.{true, false, _&&_}
+use mathlib.Core.Bool.{false, _&&_}
 use mathlib.Core.List.{List}
 use Prim.Native.Nat.{ℕ, _≤_, _<_}
 use native.Mathlib.Omega.{arith}
@@ -12,7 +12,6 @@ use Rattle.schema.specs.declared.SchemaAnswer.the-variants.{Accepted, Malformed
 use Rattle.schema.specs.Fields.{schemaOf}
 use Rattle.schema.specs.Check.{checkSchema}
 use Rattle.schema.specs.Sizes.{areaSize}
-use Rattle.schema.proofs.RangeLaws.{and-left, and-right}
 use Rattle.rules.specs.declared.Refusal.{Refusal}
 use Rattle.rules.specs.declared.Refusal.the-variants.{SchemaMalformed, SchemaUnmatched, WrongLength, Damaged, ListTooShort}
 use Rattle.rules.specs.declared.Verdict.the-variants.{Pass, Fail}
@@ -27,14 +26,6 @@ use Rattle.bridge.specs.Ready.{Sound}
 use Rattle.orphan_scan.specs.declared.Plan.{Plan}
 use Rattle.orphan_scan.specs.Scan.{orphansFrom, FirstOf, Planned, refusedBy}
 use Rattle.orphan_scan.proofs.ScanLaws.{tablesIn, from-length}
-
--- an area that refusal 10 lets pass
-pub sound-area : (bs : List ℕ) (ws : List ℤ) → checkSchema bs ≡ Accepted → length ws ≡ areaSize (schemaOf bs) → legible (schemaOf bs) ws && undamaged (schemaOf bs) (view (schemaOf bs) ws) ≡ true → Sound bs ws
-sound-area bs ws acc size e =
-    record {
-      ready = record { accepted = acc; fit = record { size = size; legible-is = and-left (legible (schemaOf bs) ws) _ e } };
-      undamaged-is = and-right (legible (schemaOf bs) ws) _ e;
-    }
 
 module _ (bs : List ℕ) (ws : List ℤ) (room : ℕ) where
   -- ---- the plan of a list that is refused

@@ -15,8 +15,8 @@ use Rattle.rules.specs.declared.Answer.{Answer}
 use Rattle.rules.specs.declared.Answer.the-variants.{Refused}
 use Rattle.rules.specs.Lists.{𝟘, flat, chunks}
 use Rattle.rules.specs.Values.{natOf, natural, sameValue}
-use Rattle.rules.specs.Rows.{Row, Tables}
-use Rattle.rules.specs.Book.{Entry, Level, Work, Book}
+use Rattle.rules.specs.Rows.{Tables}
+use Rattle.rules.specs.Book.{Entry, Level, Book}
 use Rattle.rules.specs.Calls.{parse, allowed}
 use Rattle.rules.specs.Statement.{Turn}
 use Rattle.rules.specs.Step.{step, Logged, runAll}

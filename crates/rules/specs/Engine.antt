@@ -1,6 +1,5 @@
 -- What the engine's public operations answer and write, for any schema bytes, any area and any call.
 -- Assumes nothing.
-use mathlib.Core.Bool.{Bool}
 use mathlib.Core.List.{List}
 use Prim.Native.Nat.{ℕ}
 use lib.Dec.{eqb}

@@ -1,19 +1,14 @@
 -- Laws of the check, as the functions that make it use them. Assumes nothing.
-use mathlib.Core.Path.{_≡_, refl, sym, ap, _∙_}
-use mathlib.Core.Bool.{Bool, true, false, not, cond, _&&_}
+use mathlib.Core.Path.{_≡_, sym}
+use mathlib.Core.Bool.{Bool, true, false, _&&_}
 use mathlib.Core.List.{List}
-use Prim.Native.Nat.{ℕ, zero, suc, _+_, _-_, _*_, _<_, _≤_}
-use native.Mathlib.Nat.{zero-add}
-use native.Mathlib.Omega.{arith}
-use borrow.Author.Tests.{le-leb, lt-leb, leb-true, ltb-true, eqb-true, lt-ltb, le-ltb}
-use lib.Dec.{leb, ltb, eqb}
+use Prim.Native.Nat.{ℕ, _+_, _<_, _≤_}
+use borrow.Author.Tests.{le-leb, lt-leb, lt-ltb, le-ltb}
 use lib.ListN.{length}
-use Rattle.schema.specs.Bytes.{half}
 use Rattle.schema.specs.declared.SchemaAnswer.the-variants.{Accepted, Malformed, Unmatched}
 use Rattle.schema.specs.Ranges.{allFrom, anyFrom}
 use Rattle.schema.specs.Fields
 use Rattle.schema.specs.Check
-use Rattle.schema.proofs.RangeLaws.{and-left, and-right, all-at}
 
 pub starts-is : (start bs : List ℕ) {b : Bool} → length start ≤ length bs → allFrom (Check.sameAt bs start) (length start) 0 ≡ b → b ≡ Check.startsWith start bs
 unfolding Check.startsWith

@@ -1,15 +1,14 @@
 -- What bytes that break no rule of refusal 1 are. Assumes nothing.
-use mathlib.Core.Path.{_≡_, refl, sym, ap, _∙_}
-use mathlib.Core.Bool.{Bool, true, false, not, _&&_, _||_}
+use mathlib.Core.Path.{_≡_}
+use mathlib.Core.Bool.{Bool, true, _&&_}
 use mathlib.Core.List.{List}
-use Prim.Native.Nat.{ℕ, zero, suc, _+_, _-_, _*_, _/_, _^_, _<_, _≤_}
+use Prim.Native.Nat.{ℕ, _+_, _*_, _<_, _≤_}
 use native.Mathlib.Nat.{zero-add}
 use native.Mathlib.Omega.{arith}
 use borrow.Author.Tests.{leb-true, ltb-true, eqb-true}
-use lib.Dec.{leb, ltb, eqb}
+use lib.Dec.{leb}
 use lib.ListN.{length}
-use Rattle.schema.specs.Bytes.{half}
-use Rattle.schema.specs.Ranges.{allFrom, anyFrom}
+use Rattle.schema.specs.Ranges.{allFrom}
 use Rattle.schema.specs.Bounds.{Within}
 use Rattle.schema.specs.Fields
 use Rattle.schema.specs.Check

@@ -1,18 +1,18 @@
 -- The foreign keys of an accepted schema. Assumes nothing.
-use mathlib.Core.Path.{_≡_, refl, sym, ap, subst, _∙_}
-use mathlib.Core.Bool.{Bool, true, false, not, cond, _&&_, _||_, true≢false, false≢true}
-use mathlib.Core.List.{List, [], _∷_}
+use mathlib.Core.Path.{_≡_, refl, ap}
+use mathlib.Core.Bool.{Bool, true, false, false≢true}
+use mathlib.Core.List.{List}
 use mathlib.Core.Logic.{_⊎_, inl, inr}
-use Prim.Native.Nat.{ℕ, zero, suc, _+_, _-_, _*_, _<_, _≤_}
-use native.Mathlib.Nat.{add-zero, zero-add}
+use Prim.Native.Nat.{ℕ, zero, suc, _+_, _-_, _<_, _≤_}
+use native.Mathlib.Nat.{zero-add}
 use native.Mathlib.Omega.{arith}
-use borrow.Author.Tests.{ltb-true, eqb-true, eqb-false, eq-eqb, not-true}
+use borrow.Author.Tests.{ltb-true, eqb-true, eqb-false, not-true}
 use lib.Dec.{ltb, eqb}
 use lib.Count.{ones}
-use lib.ListN.{length, getD}
+use lib.ListN.{length}
 use Rattle.schema.specs.declared.SchemaAnswer.the-variants.{Accepted}
 use Rattle.schema.specs.Ranges.{allFrom, anyFrom, listFrom}
-use Rattle.schema.specs.Records.{Table, ForeignKey, Schema, tableOf, keyOf}
+use Rattle.schema.specs.Records.{keyOf}
 use Rattle.schema.specs.Bytes
 use Rattle.schema.specs.Bytes.{bit}
 use Rattle.schema.specs.Fields
@@ -20,7 +20,7 @@ use Rattle.schema.specs.Fields.{tableFrom, keyFrom, schemaOf}
 use Rattle.schema.specs.Check
 use Rattle.schema.specs.ParentKey.{Mem, ParentKey}
 use Rattle.schema.proofs.RangeLaws.{and-left, and-right, all-at}
-use Rattle.schema.proofs.Formed.{Formed, formed, and3}
+use Rattle.schema.proofs.Formed.{formed, and3}
 use Rattle.schema.proofs.MaskLaws.{Distinct, Found, exact}
 use Rattle.schema.proofs.SchemaLaws.{tables-are, keys-are, table-is, key-is, accepted-formed, accepted-parents}
 

@@ -1,6 +1,6 @@
 -- Schema bytes: where each field stands, and the schema that the bytes are. Little-endian; all fields unsigned except the defaults.
 -- Assumes nothing.
-use mathlib.Core.Bool.{Bool, cond}
+use mathlib.Core.Bool.{cond}
 use mathlib.Core.List.{List}
 use Prim.Native.Nat.{ℕ, _+_, _*_}
 use lib.Dec.{eqb}

@@ -7,7 +7,7 @@ use mathlib.Core.Logic.{_⊎_}
 use Prim.Native.Nat.{ℕ, _<_}
 use lib.ListN.{length}
 use Rattle.schema.specs.Bytes.{bit}
-use Rattle.schema.specs.Records.{Table, ForeignKey, Schema, tableOf}
+use Rattle.schema.specs.Records.{ForeignKey, Schema, tableOf}
 
 module _ {A : Type 0} (x : A) where
   -- x is in the list

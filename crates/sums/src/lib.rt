@@ -1,9 +1,7 @@
 // Arrays of 32 signed numbers: sums, differences, zeros.
 ghost use mathlib.Core.Path.{_≡_};
-ghost use mathlib.Core.Bool.{Bool};
-ghost use Prim.Native.Nat.{ℕ, _+_, _*_, _^_, _≤_, _<_};
-ghost use lib.IntN.{ℤ, pos, natAbs, _+ℤ_, _-ℤ_};
-ghost use lib.ListN.{length, getD};
+ghost use Prim.Native.Nat.{_+_, _^_, _<_};
+ghost use lib.IntN.{ℤ, natAbs, _+ℤ_, _-ℤ_};
 ghost use Rattle.rules.specs.Lists;
 ghost use Rattle.rules.specs.Values.{allZero};
 ghost use Rattle.sums.specs.Small.{Small};

@@ -1,7 +1,7 @@
 // Transactions and savepoints: begin, savepoint, release, rollback to a level, rollback, commit.
 ghost use mathlib.Core.Path.{_≡_};
-ghost use Prim.Native.Nat.{ℕ, _+_, _*_, _-_, _≤_, _<_};
-ghost use lib.IntN.{ℤ, pos};
+ghost use Prim.Native.Nat.{_+_, _*_, _-_, _≤_, _<_};
+ghost use lib.IntN.{pos};
 ghost use lib.Dec.{leb};
 ghost use lib.ListN.{length, getD, take, drop};
 ghost use Rattle.schema.specs.Fields.{schemaOf};
@@ -12,7 +12,7 @@ ghost use Rattle.rules.specs.Calls;
 ghost use Rattle.rules.specs.State;
 ghost use Rattle.rules.specs.Step;
 ghost use Rattle.rules.specs.Area.{view, words, onWords};
-ghost use Rattle.bridge.specs.Fit.{Fit, Holds};
+ghost use Rattle.bridge.specs.Fit.{Holds};
 ghost use Rattle.bridge.specs.Ready.{Ready, Sound};
 ghost use Rattle.sums.specs.Small.{Small};
 use rules::Answer;

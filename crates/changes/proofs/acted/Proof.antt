@@ -1,4 +1,3 @@
-use Prim.Native.Nat.{_-_}
 use Rattle.changes.specs.Turns.{actionImage}
 use borrow.Author.Needs.{needs}
 use Rattle.changes.proofs.acted.Statement.{statement}

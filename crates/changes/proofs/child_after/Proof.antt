@@ -1,5 +1,4 @@
 use mathlib.Core.Path.{ap, _∙_}
-use Prim.Native.Nat.{_-_}
 use Rattle.schema.specs.Fields.{schemaOf}
 use Rattle.schema.specs.Records.{keyOf}
 use Rattle.rows.proofs.TableLaws.{key-columns}

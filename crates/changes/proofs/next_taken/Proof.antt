@@ -1,4 +1,3 @@
-use Prim.Native.Nat.{_-_}
 use Rattle.rows.proofs.TableLaws.{standing, parent-nine, key-columns}
 use Rattle.changes.proofs.LeafLaws as law
 use borrow.Author.Needs.{needs}

@@ -1,11 +1,11 @@
-use mathlib.Core.Path.{_≡_, refl, ap, _∙_}
-use mathlib.Core.List.{List, [], _∷_}
+use mathlib.Core.Path.{_≡_, refl}
+use mathlib.Core.List.{List, _∷_}
 use lib.IntN.{ℤ}
 use borrow.Author.Needs.{needs}
 use Prim.Native.Nat.{_<_, _^_}
 use lib.Signed.{mag}
 use mir.Syntax.{w64}
-use mir.Val.{SFits, toZ, ofZ}
+use mir.Val.{toZ, ofZ}
 use mir.Facts.{toZ-ofZ}
 use Rattle.decoding.specs.CallBytes.{wordsAt}
 use Rattle.decoding.proofs.words_at.Statement.{statement}

@@ -1,6 +1,7 @@
 use mathlib.Core.Path.{sym, _∙_}
 use borrow.Author.Tests.{not-true, not-false}
 use borrow.Author.Needs.{needs}
+use Rattle.bridge.proofs.SoundLaws.{sound-area}
 use Rattle.schema.specs.Fields.{schemaOf}
 use Rattle.engine.proofs.CallLaws as law
 use Rattle.engine.proofs.call_area.Statement.{statement}
@@ -55,7 +56,7 @@ carry-out-requires c κs =
     let area-length = c .before .before .before .before .before .before .before .before .area-length in
     let if1 = c .before .before .before .before .before .before .before .if1 in
     let read-call = c .before .before .before .before .before .before .read-call in
-    (law.sound-area (s .args .schema .now) (s .args .area .now) (s .pre) (if1 .left ∙ area-length .ensures .0) (sym (c .before .before .is-undamaged .ensures) ∙ not-false _ (c .before .if3 .left)), read-call .ensures)
+    (sound-area (s .args .schema .now) (s .args .area .now) (s .pre) (if1 .left ∙ area-length .ensures .0) (sym (c .before .before .is-undamaged .ensures) ∙ not-false _ (c .before .if3 .left)), read-call .ensures)
 
 same-length-2 : tie.Need-same-length-2
 same-length-2 c = search needs
@@ -72,7 +73,7 @@ returns-4 c =
     let if2 = c .before .before .before .before .before .before .if2 in
     let is-undamaged = c .before .before .before .before .is-undamaged in
     let if3 = c .before .before .before .if3 in
-    let h = law.sound-area (s .args .schema .now) a (s .pre) (if1 .left ∙ area-length .ensures .0) (sym (is-undamaged .ensures) ∙ not-false _ (if3 .left)) in
+    let h = sound-area (s .args .schema .now) a (s .pre) (if1 .left ∙ area-length .ensures .0) (sym (is-undamaged .ensures) ∙ not-false _ (if3 .left)) in
     c .before .carry-out .ensures
     ∙ law.carried sc (s .args .call .now) a (if1 .left ∙ area-length .ensures .0) (law.read-call sc (s .args .call .now) (read-call .result) (read-call .ensures) (sym (is-refused .ensures) ∙ if2 .left)) (h .ready .fit .legible-is) (h .undamaged-is)
 

@@ -1,4 +1,4 @@
-use mathlib.Core.Path.{_≡_, sym, ap, _∙_}
+use mathlib.Core.Path.{sym, ap}
 use borrow.Author.Tests.{ne-eqb}
 use Rattle.schema.specs.Fields.{actionFrom}
 use Rattle.fields.proofs.action_of.Statement.{statement}

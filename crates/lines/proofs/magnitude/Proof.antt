@@ -1,5 +1,5 @@
-use mathlib.Core.Path.{_≡_, ap, sym, _∙_}
-use Prim.Native.Nat.{ℕ, _+_}
+use mathlib.Core.Path.{ap, sym, _∙_}
+use Prim.Native.Nat.{_+_}
 use lib.IntN.{ℤ, natAbs}
 use native.Mathlib.Omega.{arith}
 use borrow.Author.Needs.{needs}

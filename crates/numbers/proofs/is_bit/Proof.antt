@@ -1,8 +1,4 @@
-use mathlib.Core.Path.{_≡_, refl, sym, ap, _∙_}
-use mathlib.Core.Bool.{Bool, true, false, not, _&&_}
-use Prim.Native.Nat.{ℕ, _+_, _-_, _≤_}
-use native.Mathlib.Omega.{arith}
-use borrow.Author.Tests.{not-true, not-false, lt-leb, le-leb}
+use mathlib.Core.Path.{sym}
 use Rattle.schema.proofs.MaskLaws.{bit-high}
 use borrow.Author.Needs.{needs}
 use Rattle.numbers.proofs.is_bit.Statement.{statement}

@@ -1,6 +1,6 @@
 -- `numbers::signed` meets its contract: where the top bit is set, -1 - (2^64 - 1 - u) is the number that the bits of u are in two's complement. Assumes nothing.
 use Prim.Native.Nat.{ℕ, zero, suc, _-_, _≤_, _<_, _^_}
-use mathlib.Core.Path.{_≡_, refl, ap, sym, subst, _∙_}
+use mathlib.Core.Path.{_≡_, refl, ap, sym, _∙_}
 use lib.IntN.{pos, negsuc, _-ℤ_}
 use native.Mathlib.Nat.{zero-add}
 use native.Mathlib.Omega.{arith}

@@ -1,7 +1,8 @@
 use mathlib.Core.Path.{sym, _∙_}
 use borrow.Author.Tests.{not-true, not-false}
 use borrow.Author.Needs.{needs}
-use Rattle.orphan_scan.proofs.PlanLaws.{sound-area, wrong-length, damaged}
+use Rattle.bridge.proofs.SoundLaws.{sound-area}
+use Rattle.orphan_scan.proofs.PlanLaws.{wrong-length, damaged}
 use Rattle.orphan_scan.proofs.plan_area.Statement.{statement}
 use Rattle.orphan_scan.proofs.plan_area.Tie as tie
 

@@ -1,12 +1,10 @@
-use Rattle.schema.proofs.Formed.{Formed, formed}
+use Rattle.schema.proofs.Formed.{formed}
 use Rattle.schema.specs.Fields
-use mathlib.Core.Path.{_≡_, refl, sym, ap, _∙_}
-use mathlib.Core.Bool.{Bool, true, false, _&&_}
-use Prim.Native.Nat.{ℕ, _+_, _-_, _≤_}
+use mathlib.Core.Path.{_≡_, sym, _∙_}
+use Prim.Native.Nat.{_-_, _≤_}
 use native.Mathlib.Omega.{arith}
 use borrow.Author.Needs.{needs}
-use borrow.Author.Tests.{not-true, not-false, lt-leb, le-leb}
-use lib.ListN.{length}
+use borrow.Author.Tests.{not-true, not-false}
 use Rattle.schema.specs.Ranges.{allFrom}
 use Rattle.schema.specs.Check.{parentRules}
 use Rattle.schema.proofs.RangeLaws.{all-start, all-none, all-stop, all-go}

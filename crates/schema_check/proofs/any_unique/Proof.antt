@@ -1,13 +1,9 @@
-use mathlib.Core.Path.{_≡_, refl, sym, ap, _∙_}
-use mathlib.Core.Bool.{Bool, true, false, _&&_}
-use Prim.Native.Nat.{ℕ, _+_, _-_, _≤_}
-use native.Mathlib.Omega.{arith}
+use mathlib.Core.Path.{_≡_, refl, sym, _∙_}
+use Prim.Native.Nat.{_-_, _≤_}
 use borrow.Author.Needs.{needs}
-use borrow.Author.Tests.{not-true, not-false, lt-leb, le-leb}
-use lib.ListN.{length}
 use Rattle.schema.specs.Ranges.{anyFrom}
 use Rattle.schema.specs.Check.{uniqueIs}
-use Rattle.schema.proofs.RangeLaws.{any-start, any-none, any-stop, any-go}
+use Rattle.schema.proofs.RangeLaws.{any-none, any-stop, any-go}
 use Rattle.schema_check.proofs.any_unique.Statement.{statement}
 use Rattle.schema_check.proofs.any_unique.Tie as tie
 use Rattle.schema_check.proofs.any_unique.Reads as reads

@@ -1,9 +1,6 @@
 use Rattle.schema.specs.Check.{inMask}
-use mathlib.Core.Path.{_≡_, refl, sym, ap, _∙_}
-use mathlib.Core.Bool.{Bool, true, false, not, _&&_}
-use Prim.Native.Nat.{ℕ, _+_, _-_, _≤_}
-use native.Mathlib.Omega.{arith}
-use borrow.Author.Tests.{not-true, not-false, lt-leb, le-leb}
+use mathlib.Core.Path.{ap, _∙_}
+use Prim.Native.Nat.{ℕ}
 use Rattle.schema.specs.Bytes.{bit}
 use borrow.Author.Needs.{needs}
 use Rattle.schema_check.proofs.in_mask.Statement.{statement}

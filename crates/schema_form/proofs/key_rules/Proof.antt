@@ -1,11 +1,9 @@
 use Rattle.schema.specs.Ranges.{every, andAll}
 use Rattle.schema.specs.Check
-use mathlib.Core.Path.{_≡_, refl, sym, ap, _∙_}
-use mathlib.Core.Bool.{Bool, true, false}
-use Prim.Native.Nat.{ℕ, _+_, _*_, _≤_, _<_}
+use mathlib.Core.Path.{_≡_, sym, ap, _∙_}
+use Prim.Native.Nat.{ℕ, _+_}
 use native.Mathlib.Omega.{arith}
-use borrow.Author.Tests.{not-true, not-false, lt-leb, le-leb}
-use lib.ListN.{length}
+use borrow.Author.Tests.{not-true, not-false}
 use Rattle.schema.specs.Bytes
 use Rattle.schema.specs.Fields
 use Rattle.schema.proofs.CheckLaws.{key-no, key-rest}

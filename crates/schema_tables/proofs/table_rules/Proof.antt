@@ -1,9 +1,8 @@
 use Rattle.schema.specs.Ranges.{every, andAll}
 use Rattle.schema.specs.Check
-use mathlib.Core.Path.{_≡_, refl, sym, ap, _∙_}
+use mathlib.Core.Path.{sym, _∙_}
 use Prim.Native.Nat.{_≤_}
-use native.Mathlib.Omega.{arith}
-use borrow.Author.Tests.{not-true, not-false, lt-leb, le-leb}
+use borrow.Author.Tests.{not-true, not-false}
 use Rattle.schema.specs.Fields
 use Rattle.schema.proofs.CheckLaws.{table-no, table-rest}
 use Rattle.schema.proofs.Formed.{sizes}

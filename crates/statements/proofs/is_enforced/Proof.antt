@@ -1,5 +1,4 @@
 use mathlib.Core.Path.{sym, _∙_}
-use Prim.Native.Nat.{_-_}
 use Rattle.schema.specs.Fields.{schemaOf}
 use Rattle.statements.proofs.SettleLaws as law
 use borrow.Author.Needs.{needs}

@@ -1,4 +1,3 @@
-use Prim.Native.Nat.{_-_}
 use native.Mathlib.Omega.{arith}
 use Rattle.bridge.proofs.HoldLaws.{area-long}
 use Rattle.statements.proofs.Ends as ends

@@ -1,4 +1,3 @@
-use Prim.Native.Nat.{_-_}
 use native.Mathlib.Omega.{arith}
 use Rattle.bridge.proofs.SoundLaws.{undoable}
 use Rattle.transactions.proofs.Steps as step

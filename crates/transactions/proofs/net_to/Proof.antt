@@ -1,5 +1,4 @@
 use mathlib.Core.Path.{ap, ap₂, _∙_}
-use Prim.Native.Nat.{_-_}
 use native.Mathlib.Omega.{arith}
 use Rattle.rules.specs.Lists.{sum, less}
 use Rattle.words.proofs.Signed.{back}

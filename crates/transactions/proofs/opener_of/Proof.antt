@@ -1,5 +1,4 @@
 use mathlib.Core.Path.{refl}
-use Prim.Native.Nat.{_-_}
 use borrow.Author.Tests.{le-leb}
 use Rattle.rules.specs.Step.{openerOf}
 use Rattle.transactions.proofs.Steps as step
