@@ -7,6 +7,7 @@ ghost use mir.Val.{toZ};
 ghost use Rattle.schema.specs.Bytes.{byte, half, word, signedWord, bit};
 ghost use Rattle.schema.specs.Fields.{keyStart};
 
+// A byte as a number.
 pub fn wide(x: u8) -> usize
     ensures { λ r. ⌜ (r ≡ x) × (r < 256) ⌝ }
 {

@@ -9,6 +9,7 @@ ghost use Rattle.schema.specs.Fields;
 ghost use Rattle.schema.specs.Check;
 use schema::SchemaAnswer;
 
+// A count as a number.
 fn wide_count(x: u32) -> usize
     ensures { λ r. ⌜ r ≡ x ⌝ }
 {
@@ -22,6 +23,7 @@ fn count_of(m: u8) -> usize
     wide_count(u8::count_ones(m))
 }
 
+// Whether column i, counted from at, is in a mask.
 fn in_mask(s: &[u8], at: usize, m: usize, i: usize) -> bool
     requires { ⌜ (at + i < length (now s)) × (m < 256) ⌝ }
     ensures { λ r. ⌜ r ≡ Check.inMask (now (s .entry)) at m i ⌝ }
@@ -29,6 +31,7 @@ fn in_mask(s: &[u8], at: usize, m: usize, i: usize) -> bool
     numbers::is_bit(m, numbers::byte_at(s, at + i))
 }
 
+// The same for n columns.
 fn all_in_mask(s: &[u8], at: usize, m: usize, n: usize) -> bool
     requires { ⌜ (at + n ≤ length (now s)) × (m < 256) ⌝ }
     ensures { λ r. ⌜ r ≡ allFrom (Check.inMask (now (s .entry)) at m) n 0 ⌝ }
@@ -51,6 +54,7 @@ fn mask_is(s: &[u8], at: usize, n: usize, m: u8) -> bool
     (count_of(m) == n) & all_in_mask(s, at, numbers::wide(m), n)
 }
 
+// Whether the n columns at at are those of unique key i of the parent table.
 fn unique_is(s: &[u8], at: usize, n: usize, parent: usize, i: usize) -> bool
     requires { ⌜ (at + n ≤ length (now s)) × ((Fields.tableStart parent + 80 ≤ length (now s)) × (i < 4)) ⌝ }
     ensures { λ r. ⌜ r ≡ Check.uniqueIs (now (s .entry)) at n parent i ⌝ }
@@ -58,6 +62,7 @@ fn unique_is(s: &[u8], at: usize, n: usize, parent: usize, i: usize) -> bool
     mask_is(s, at, n, s[16 + 80 * parent + 4 + i])
 }
 
+// Whether they are those of one of its unique keys.
 fn any_unique(s: &[u8], at: usize, n: usize, parent: usize) -> bool
     requires { ⌜ (at + n ≤ length (now s)) × (Fields.tableStart parent + 80 ≤ length (now s)) ⌝ }
     ensures { λ r. ⌜ r ≡ anyFrom (Check.uniqueIs (now (s .entry)) at n parent) 4 0 ⌝ }
@@ -72,6 +77,7 @@ fn any_unique(s: &[u8], at: usize, n: usize, parent: usize) -> bool
     false
 }
 
+// The rules of foreign key k that refusal 2 names: parent table and columns are there, and are a unique key.
 fn parent_rules(s: &[u8], k: usize) -> bool
     requires { ⌜ (16 ≤ length (now s)) × ((Fields.keyStart (now s) k + 16 ≤ length (now s)) × (Fields.widthOf (now s) k ≤ 4)) ⌝ }
     ensures { λ r. ⌜ r ≡ Check.parentRules (now (s .entry)) k ⌝ }
@@ -87,6 +93,7 @@ fn parent_rules(s: &[u8], k: usize) -> bool
     schema_form::column_rules(s, at + 10, columns, n) & any_unique(s, at + 10, n, parent)
 }
 
+// Whether the first n foreign keys break none of them.
 fn all_parents(s: &[u8], n: usize) -> bool
     requires { ⌜ (Check.wellFormed (now s) ≡ true) × (n ≡ Fields.keyCount (now s)) ⌝ }
     ensures { λ r. ⌜ r ≡ allFrom (Check.parentRules (now (s .entry))) n 0 ⌝ }

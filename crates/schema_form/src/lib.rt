@@ -19,6 +19,7 @@ fn action_rule(code: u8) -> bool
     }
 }
 
+// Whether column i, counted from at, is below the number of columns.
 fn column_rule(s: &[u8], at: usize, columns: usize, i: usize) -> bool
     requires { ⌜ at + i < length (now s) ⌝ }
     ensures { λ r. ⌜ r ≡ Check.columnRule (now (s .entry)) at columns i ⌝ }
@@ -26,6 +27,7 @@ fn column_rule(s: &[u8], at: usize, columns: usize, i: usize) -> bool
     numbers::byte_at(s, at + i) < columns
 }
 
+// The same for n columns.
 pub fn column_rules(s: &[u8], at: usize, columns: usize, n: usize) -> bool
     requires { ⌜ at + n ≤ length (now s) ⌝ }
     ensures { λ r. ⌜ r ≡ allFrom (Check.columnRule (now (s .entry)) at columns) n 0 ⌝ }
@@ -40,6 +42,7 @@ pub fn column_rules(s: &[u8], at: usize, columns: usize, n: usize) -> bool
     true
 }
 
+// Whether columns i and j, counted from at, differ.
 fn differ(s: &[u8], at: usize, i: usize, j: usize) -> bool
     requires { ⌜ (at + i < length (now s)) × (at + j < length (now s)) ⌝ }
     ensures { λ r. ⌜ r ≡ Check.differ (now (s .entry)) at i j ⌝ }
@@ -47,6 +50,7 @@ fn differ(s: &[u8], at: usize, i: usize, j: usize) -> bool
     s[at + i] != s[at + j]
 }
 
+// Whether column i is none of those before it.
 fn new_column(s: &[u8], at: usize, i: usize) -> bool
     requires { ⌜ at + i < length (now s) ⌝ }
     ensures { λ r. ⌜ r ≡ Check.newColumn (now (s .entry)) at i ⌝ }
@@ -61,6 +65,7 @@ fn new_column(s: &[u8], at: usize, i: usize) -> bool
     true
 }
 
+// Whether n columns are distinct.
 fn distinct(s: &[u8], at: usize, n: usize) -> bool
     requires { ⌜ at + n ≤ length (now s) ⌝ }
     ensures { λ r. ⌜ r ≡ allFrom (Check.newColumn (now (s .entry)) at) n 0 ⌝ }
@@ -75,6 +80,7 @@ fn distinct(s: &[u8], at: usize, n: usize) -> bool
     true
 }
 
+// Whether n of four columns are distinct, and those past n are 255.
 fn columns_rule(s: &[u8], at: usize, n: usize) -> bool
     requires { ⌜ (at + 4 ≤ length (now s)) × (n ≤ 4) ⌝ }
     ensures { λ r. ⌜ r ≡ Check.columnsRule (now (s .entry)) at n ⌝ }
@@ -82,6 +88,7 @@ fn columns_rule(s: &[u8], at: usize, n: usize) -> bool
     distinct(s, at, n) & schema_tables::all_bytes(s, at, 255, n, 4)
 }
 
+// Child table, deferred, actions and column count of foreign key k are in their ranges.
 fn code_rules(s: &[u8], k: usize) -> bool
     requires { ⌜ (16 ≤ length (now s)) × (Fields.keyStart (now s) k + 16 ≤ length (now s)) ⌝ }
     ensures { λ r. ⌜ r ≡ Check.codeRules (now (s .entry)) k ⌝ }
@@ -95,6 +102,7 @@ fn code_rules(s: &[u8], k: usize) -> bool
         & schema_tables::is_within(1, 4, numbers::byte_at(s, at + 5))
 }
 
+// The rules of foreign key record k that refusal 1 names.
 fn key_rules(s: &[u8], k: usize) -> bool
     requires { ⌜ (16 ≤ length (now s)) × (Fields.keyStart (now s) k + 16 ≤ length (now s)) ⌝ }
     ensures { λ r. ⌜ r ≡ Check.keyRules (now (s .entry)) k ⌝ }
@@ -113,6 +121,7 @@ fn key_rules(s: &[u8], k: usize) -> bool
         & schema_tables::is_byte(s, at, 0, 15)
 }
 
+// Whether the first n foreign key records break none of them.
 fn all_keys(s: &[u8], n: usize) -> bool
     requires { ⌜ (16 ≤ length (now s)) × (Fields.keyStart (now s) n ≤ length (now s)) ⌝ }
     ensures { λ r. ⌜ r ≡ allFrom (Check.keyRules (now (s .entry))) n 0 ⌝ }

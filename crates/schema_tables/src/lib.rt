@@ -9,6 +9,7 @@ ghost use Rattle.schema.specs.Check;
 
 // ---- numbers
 
+// Whether x is lo to hi.
 pub fn is_within(lo: usize, hi: usize, x: usize) -> bool
     ensures { λ r. ⌜ r ≡ Check.within lo hi x ⌝ }
 {
@@ -17,6 +18,7 @@ pub fn is_within(lo: usize, hi: usize, x: usize) -> bool
 
 // ---- runs of bytes
 
+// Whether byte i is that of the start.
 fn is_same(s: &[u8], start: &[u8], i: usize) -> bool
     requires { ⌜ (i < length (now s)) × (i < length (now start)) ⌝ }
     ensures { λ r. ⌜ r ≡ Check.sameAt (now (s .entry)) (now (start .entry)) i ⌝ }
@@ -24,6 +26,7 @@ fn is_same(s: &[u8], start: &[u8], i: usize) -> bool
     s[i] == start[i]
 }
 
+// Whether the bytes begin with a fixed byte string.
 fn starts_with(s: &[u8], start: &[u8]) -> bool
     ensures { λ r. ⌜ r ≡ Check.startsWith (now (start .entry)) (now (s .entry)) ⌝ }
 {
@@ -41,6 +44,7 @@ fn starts_with(s: &[u8], start: &[u8]) -> bool
     true
 }
 
+// Whether the byte at at + i is b.
 pub fn is_byte(s: &[u8], at: usize, b: u8, i: usize) -> bool
     requires { ⌜ at + i < length (now s) ⌝ }
     ensures { λ r. ⌜ r ≡ Check.isByte (now (s .entry)) at b i ⌝ }
@@ -65,6 +69,7 @@ pub fn all_bytes(s: &[u8], at: usize, b: u8, from: usize, to: usize) -> bool
 
 // ---- the header
 
+// The six fields behind the four bytes: tables, foreign keys, offsets, journal room, whole length.
 fn header_rest(s: &[u8]) -> bool
     requires { ⌜ 16 ≤ length (now s) ⌝ }
     ensures { λ r. ⌜ r ≡ Check.headerRest (now (s .entry)) ⌝ }
@@ -82,6 +87,7 @@ fn header_rest(s: &[u8]) -> bool
         & (s.len() == whole)
 }
 
+// The header: its 16 bytes are there, begin with the four bytes, and each field is in its range.
 pub fn header_rules(s: &[u8]) -> bool
     ensures { λ r. ⌜ r ≡ Check.headerRules (now (s .entry)) ⌝ }
 {
@@ -93,6 +99,7 @@ pub fn header_rules(s: &[u8]) -> bool
 
 // ---- a table record
 
+// Whether mask i, counted from at, has no bit at the columns and above.
 fn mask_rule(s: &[u8], at: usize, columns: usize, i: usize) -> bool
     requires { ⌜ (at + i < length (now s)) × (columns < 64) ⌝ }
     ensures { λ r. ⌜ r ≡ Check.maskRule (now (s .entry)) at columns i ⌝ }
@@ -100,6 +107,7 @@ fn mask_rule(s: &[u8], at: usize, columns: usize, i: usize) -> bool
     (numbers::byte_at(s, at + i) >> columns) == 0
 }
 
+// The same for n masks.
 fn mask_rules(s: &[u8], at: usize, columns: usize, n: usize) -> bool
     requires { ⌜ (at + n ≤ length (now s)) × (columns < 64) ⌝ }
     ensures { λ r. ⌜ r ≡ allFrom (Check.maskRule (now (s .entry)) at columns) n 0 ⌝ }
@@ -114,6 +122,7 @@ fn mask_rules(s: &[u8], at: usize, columns: usize, n: usize) -> bool
     true
 }
 
+// Whether unique key i + 1 is unused where unique key i is.
 fn unique_rule(s: &[u8], t: usize, i: usize) -> bool
     requires { ⌜ (Fields.tableStart t + 80 ≤ length (now s)) × (i < 3) ⌝ }
     ensures { λ r. ⌜ r ≡ Check.uniqueRule (now (s .entry)) t i ⌝ }
@@ -122,6 +131,7 @@ fn unique_rule(s: &[u8], t: usize, i: usize) -> bool
     (s[at + (i + 1)] == 0) | (s[at + i] != 0)
 }
 
+// Whether default c is 0 where it is NULL or there is no such column.
 fn default_rule(s: &[u8], t: usize, c: usize) -> bool
     requires { ⌜ (Fields.tableStart t + 80 ≤ length (now s)) × (c < 8) ⌝ }
     ensures { λ r. ⌜ r ≡ Check.defaultRule (now (s .entry)) t c ⌝ }
@@ -132,6 +142,7 @@ fn default_rule(s: &[u8], t: usize, c: usize) -> bool
     (numbers::word_at(s, at + 16 + 8 * c) == 0) | ((c < columns) & !numbers::is_bit(nulls, c))
 }
 
+// The same for all eight defaults.
 fn default_rules(s: &[u8], t: usize) -> bool
     requires { ⌜ Fields.tableStart t + 80 ≤ length (now s) ⌝ }
     ensures { λ r. ⌜ r ≡ allFrom (Check.defaultRule (now (s .entry)) t) 8 0 ⌝ }
@@ -146,6 +157,7 @@ fn default_rules(s: &[u8], t: usize) -> bool
     true
 }
 
+// Rows 1 to 1,024, columns 1 to 8.
 fn size_rules(s: &[u8], t: usize) -> bool
     requires { ⌜ Fields.tableStart t + 80 ≤ length (now s) ⌝ }
     ensures { λ r. ⌜ r ≡ Check.sizeRules (now (s .entry)) t ⌝ }
@@ -154,6 +166,7 @@ fn size_rules(s: &[u8], t: usize) -> bool
     is_within(1, 1024, numbers::half_at(s, at)) & is_within(1, 8, numbers::byte_at(s, at + 2))
 }
 
+// The rules of table record t: sizes, masks, unique keys, zero bytes, defaults.
 fn table_rules(s: &[u8], t: usize) -> bool
     requires { ⌜ Fields.tableStart t + 80 ≤ length (now s) ⌝ }
     ensures { λ r. ⌜ r ≡ Check.tableRules (now (s .entry)) t ⌝ }
@@ -171,6 +184,7 @@ fn table_rules(s: &[u8], t: usize) -> bool
         & default_rules(s, t)
 }
 
+// Whether the first n table records break no rule.
 pub fn all_tables(s: &[u8], n: usize) -> bool
     requires { ⌜ 16 + 80 * n ≤ length (now s) ⌝ }
     ensures { λ r. ⌜ r ≡ allFrom (Check.tableRules (now (s .entry))) n 0 ⌝ }
