@@ -22,7 +22,10 @@ same-length : tie.Need-same-length
 same-length c = search needs
 
 returns : tie.Need-returns
-returns c = emptied-is (c .before .before .before .before .before .pre .fit) _ (c .before .before .before .journal-start .ensures .0) (ap (λ (l : List ℤ). set l 2 (pos 0)) (c .before .clear-from .ensures))
+returns c =
+    let journal-start = c .before .before .before .journal-start in
+    let clear-from = c .before .clear-from in
+    emptied-is (c .before .before .before .before .before .pre .fit) _ (journal-start .ensures .0) (ap (λ (l : List ℤ). set l 2 (pos 0)) (clear-from .ensures))
 
 pub empty-journal-spec : {M : Type 1} → statement M
 empty-journal-spec =

@@ -22,14 +22,21 @@ add-width c = search needs
 
 write-row-requires : tie.Need-write-row-requires
 write-row-requires c κs =
+    let start-of = c .before .before .before .start-of in
+    let table-words = c .before .before .table-words in
+    let columns = c .before .columns in
     let s = c .before .before .before .before .before in
-    (row-in-table _ (s .args .t) (s .args .r) (c .before .before .before .start-of .ensures .0) (c .before .columns .ensures .0) (s .pre .0 .row) (c .before .before .table-words .ensures .0), (table-in-area _ (s .args .t) (s .args .r) (c .before .before .before .start-of .ensures .0) (c .before .columns .ensures .0) (s .pre .0 .table) (c .before .before .table-words .ensures .0) (s .pre .1), omega (arith, c .before .columns .ensures .1)))
+    (row-in-table _ (s .args .t) (s .args .r) (start-of .ensures .0) (columns .ensures .0) (s .pre .0 .row) (table-words .ensures .0), (table-in-area _ (s .args .t) (s .args .r) (start-of .ensures .0) (columns .ensures .0) (s .pre .0 .table) (table-words .ensures .0) (s .pre .1), omega (arith, columns .ensures .1)))
 
 same-length : tie.Need-same-length
 same-length c = search needs
 
 returns : tie.Need-returns
-returns c = let s = c .before .before .before .before .before .before .before in put-is _ (s .args .t) (s .args .r) (c .before .before .before .before .before .start-of .ensures .0) (c .before .before .before .columns .ensures .0) (s .args .area .now) (s .args .image) (c .before .write-row .ensures)
+returns c =
+    let start-of = c .before .before .before .before .before .start-of in
+    let columns = c .before .before .before .columns in
+    let write-row = c .before .write-row in
+    let s = c .before .before .before .before .before .before .before in put-is _ (s .args .t) (s .args .r) (start-of .ensures .0) (columns .ensures .0) (s .args .area .now) (s .args .image) (write-row .ensures)
 
 pub put-in-table-spec : {M : Type 1} → statement M
 put-in-table-spec =

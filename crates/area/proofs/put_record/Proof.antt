@@ -24,8 +24,9 @@ add-put-row c = search needs
 
 put-row-requires : tie.Need-put-row-requires
 put-row-requires c κs =
+    let word-of = c .before .word-of in
     let a = c .before .before .args in
-    let e : length (set (a .area .now) (a .at) (toZ w64 (ofZ w64 (c .before .word-of .result)))) ≡ length (a .area .now) = length-set (a .area .now) (a .at) (toZ w64 (ofZ w64 (c .before .word-of .result))) in
+    let e : length (set (a .area .now) (a .at) (toZ w64 (ofZ w64 (word-of .result)))) ≡ length (a .area .now) = length-set (a .area .now) (a .at) (toZ w64 (ofZ w64 (word-of .result))) in
     (omega arith, omega arith)
 
 same-length : tie.Need-same-length
@@ -33,8 +34,10 @@ same-length c = let a = c .before .before .before .before .args in c .before .pu
 
 returns : tie.Need-returns
 returns c =
+    let word-of = c .before .before .before .word-of in
+    let put-row = c .before .put-row in
     let a = c .before .before .before .before .args in
-    c .before .put-row .ensures ∙ record-is (a .area .now) (a .at) (toZ w64 (ofZ w64 (c .before .before .before .word-of .result))) (pos (a .place)) (a .old) (back _ (c .before .before .before .word-of .ok) ∙ c .before .before .before .word-of .ensures) (search needs)
+    put-row .ensures ∙ record-is (a .area .now) (a .at) (toZ w64 (ofZ w64 (word-of .result))) (pos (a .place)) (a .old) (back _ (word-of .ok) ∙ word-of .ensures) (search needs)
 
 pub put-record-spec : {M : Type 1} → statement M
 put-record-spec =

@@ -23,13 +23,24 @@ set-record-requires : tie.Need-set-record-requires
 set-record-requires c κs = let s = c .before .before .before .before .before .before .before in (omega (arith, use-in-room (s .pre .0 .ready .fit), area-long (s .pre .0 .ready .fit)), (omega arith, omega (arith, use-in-room (s .pre .0 .ready .fit), room-few _ (s .pre .0 .ready .accepted))))
 
 put-in-table-requires : tie.Need-put-in-table-requires
-put-in-table-requires c κs = let s = c .before .before .before .before .before .before .before .before .before .before in (newest-place (s .pre .0) (s .pre .1) (c .before .before .before .before .before .before .before .before .record-at .ensures) (c .before .before .before .before .before .before .nat-at .ensures) (c .before .before .before .before .image-at .ensures), c .before .before .set-record .kept .0 ∙ s .pre .0 .ready .fit .size)
+put-in-table-requires c κs =
+    let record-at = c .before .before .before .before .before .before .before .before .record-at in
+    let nat-at = c .before .before .before .before .before .before .nat-at in
+    let image-at = c .before .before .before .before .image-at in
+    let set-record = c .before .before .set-record in
+    let s = c .before .before .before .before .before .before .before .before .before .before in (newest-place (s .pre .0) (s .pre .1) (record-at .ensures) (nat-at .ensures) (image-at .ensures), set-record .kept .0 ∙ s .pre .0 .ready .fit .size)
 
 same-length : tie.Need-same-length
 same-length c = search needs
 
 returns : tie.Need-returns
-returns c = let s = c .before .before .before .before .before .before .before .before .before .before .before .before in newest-undone (s .pre .0) (s .pre .1) (c .before .before .before .before .before .before .before .before .before .before .record-at .ensures) (c .before .before .before .before .before .before .before .before .nat-at .ensures) (c .before .before .before .before .before .before .image-at .ensures) (c .before .before .before .before .set-record .ensures) (c .before .put-in-table .ensures)
+returns c =
+    let record-at = c .before .before .before .before .before .before .before .before .before .before .record-at in
+    let nat-at = c .before .before .before .before .before .before .before .before .nat-at in
+    let image-at = c .before .before .before .before .before .before .image-at in
+    let set-record = c .before .before .before .before .set-record in
+    let put-in-table = c .before .put-in-table in
+    let s = c .before .before .before .before .before .before .before .before .before .before .before .before in newest-undone (s .pre .0) (s .pre .1) (record-at .ensures) (nat-at .ensures) (image-at .ensures) (set-record .ensures) (put-in-table .ensures)
 
 pub undo-one-spec : {M : Type 1} → statement M
 undo-one-spec =

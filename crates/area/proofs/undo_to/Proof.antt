@@ -45,9 +45,10 @@ loop-less c = search needs
 loop-again : tie.Need-loop-again Inv-loop μ-loop
 loop-again c =
     let l = c .before .before .before .before .loop in
+    let undo-one = c .before .undo-one in
     let u = l .inv .1 .1 .0 in
-    let k = c .before .undo-one .ensures .1 in
-    let w = c .before .undo-one .ensures .0 in
+    let k = undo-one .ensures .1 in
+    let w = undo-one .ensures .0 in
     let e : l .used ≡ suc (l .used - 1) = omega arith in
     (search needs, (keeps-trans (l .inv .1 .0) k, (undoable-less u k w, (use-less u k w (sym (l .inv .1 .1 .1 .0) ∙ e), l .inv .1 .1 .1 .1 ∙ undo-again u k w (c .before .before .before .before .before .before .before .before .args .to) (omega arith)))))
 

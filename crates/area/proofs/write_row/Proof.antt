@@ -26,9 +26,10 @@ add-set-record-2 c = search needs
 
 set-record-requires : tie.Need-set-record-requires
 set-record-requires c κs =
+    let nat-at = c .before .before .nat-at in
     let s = c .before .before .before .before .before .before .before in
     let h = next-in-room (s .pre .0) (s .pre .1) in
-    (omega (arith, c .before .before .nat-at .ensures, area-long (s .pre .0 .ready .fit)), (omega (arith, place-word (s .pre .0) (s .pre .1)), omega (arith, c .before .before .nat-at .ensures, room-few _ (s .pre .0 .ready .accepted))))
+    (omega (arith, nat-at .ensures, area-long (s .pre .0 .ready .fit)), (omega (arith, place-word (s .pre .0) (s .pre .1)), omega (arith, nat-at .ensures, room-few _ (s .pre .0 .ready .accepted))))
 
 put-in-table-requires : tie.Need-put-in-table-requires
 put-in-table-requires c κs = search needs
@@ -38,8 +39,13 @@ same-length c = search needs
 
 returns : tie.Need-returns
 returns c =
+    let image-of = c .before .before .before .before .before .before .before .before .before .image-of in
+    let nat-at = c .before .before .before .before .before .before .before .nat-at in
+    let record-at = c .before .before .before .before .before .before .record-at in
+    let set-record = c .before .before .before .before .set-record in
+    let put-in-table = c .before .put-in-table in
     let s = c .before .before .before .before .before .before .before .before .before .before .before .before in
-    (c .before .before .before .before .before .before .before .before .before .image-of .ensures, written-is (s .pre .0) (s .pre .1) (s .args .image) (search needs) (c .before .before .before .before .before .before .record-at .ensures) (c .before .before .before .before .before .before .before .nat-at .ensures) (c .before .before .before .before .before .before .before .before .before .image-of .ensures) (c .before .before .before .before .set-record .ensures) (c .before .put-in-table .ensures))
+    (image-of .ensures, written-is (s .pre .0) (s .pre .1) (s .args .image) (search needs) (record-at .ensures) (nat-at .ensures) (image-of .ensures) (set-record .ensures) (put-in-table .ensures))
 
 pub write-row-spec : {M : Type 1} → statement M
 write-row-spec =

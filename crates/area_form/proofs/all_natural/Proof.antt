@@ -36,8 +36,11 @@ is-natural-at-requires c κs = omega (arith, part-fits c)
 returns : tie.Need-returns Inv-loop μ-loop
 unfolding naturalPart
 returns c =
+    let loop = c .before .before .before .loop in
+    let loop-test = c .before .before .loop-test in
+    let is-natural-at = c .before .is-natural-at in
     let a = c .before .before .before .before .args in
-    sym (c .before .before .before .loop .inv .1 ∙ all-stop (naturalPart (a .area .now) (a .at) (a .stride)) _ _ (c .before .before .loop-test .taken) (sym (c .before .is-natural-at .ensures) ∙ not-true _ (c .if1 .taken)))
+    sym (loop .inv .1 ∙ all-stop (naturalPart (a .area .now) (a .at) (a .stride)) _ _ (loop-test .taken) (sym (is-natural-at .ensures) ∙ not-true _ (c .if1 .taken)))
 
 add-i : tie.Need-add-i Inv-loop μ-loop
 add-i c = search needs
@@ -48,8 +51,11 @@ loop-less c = search needs
 loop-again : tie.Need-loop-again Inv-loop μ-loop
 unfolding naturalPart
 loop-again c =
+    let loop = c .before .before .before .loop in
+    let loop-test = c .before .before .loop-test in
+    let is-natural-at = c .before .is-natural-at in
     let a = c .before .before .before .before .args in
-    (search needs, c .before .before .before .loop .inv .1 ∙ all-go (naturalPart (a .area .now) (a .at) (a .stride)) _ _ (c .before .before .loop-test .taken) (sym (c .before .is-natural-at .ensures) ∙ not-false _ (c .if1 .left)))
+    (search needs, loop .inv .1 ∙ all-go (naturalPart (a .area .now) (a .at) (a .stride)) _ _ (loop-test .taken) (sym (is-natural-at .ensures) ∙ not-false _ (c .if1 .left)))
 
 returns-2 : tie.Need-returns-2 Inv-loop μ-loop
 returns-2 c = sym (c .before .loop .inv .1 ∙ all-none _ _ _ (c .loop-test .left))

@@ -28,9 +28,13 @@ is-zero-at-requires c κs = omega (arith, sized-long (c .before .before .before 
 returns : tie.Need-returns
 unfolding headerInRange
 returns c =
+    let room = c .before .before .before .before .room in
+    let is-in-range-at = c .before .before .before .is-in-range-at in
+    let is-natural-at = c .before .before .is-natural-at in
+    let is-in-range-at2 = c .before .is-in-range-at2 in
     let a = c .before .before .before .before .before .before .args .area .now in
     and-same
-    (and-same (and-same (c .before .before .before .is-in-range-at .ensures) (c .before .before .is-natural-at .ensures)) (c .before .is-in-range-at2 .ensures ∙ ap (λ n. inRange n (getD a 2 (pos 0))) (c .before .before .before .before .room .ensures .0)))
+    (and-same (and-same (is-in-range-at .ensures) (is-natural-at .ensures)) (is-in-range-at2 .ensures ∙ ap (λ n. inRange n (getD a 2 (pos 0))) (room .ensures .0)))
     (c .is-zero-at .ensures)
 
 pub header-in-range-spec : {M : Type 1} → statement M

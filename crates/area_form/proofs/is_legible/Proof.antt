@@ -34,7 +34,9 @@ journal-start-requires : tie.Need-journal-start-requires
 journal-start-requires c κs = search needs
 
 all-natural-requires : tie.Need-all-natural-requires
-all-natural-requires c κs = (search needs, omega (arith, sized-long (c .before .before .before .before .before .before .pre), counts-here (c .before .before .before) .levels, c .before .before .nat-at .ensures))
+all-natural-requires c κs =
+    let nat-at = c .before .before .nat-at in
+    (search needs, omega (arith, sized-long (c .before .before .before .before .before .before .pre), counts-here (c .before .before .before) .levels, nat-at .ensures))
 
 all-natural-requires-2 : tie.Need-all-natural-requires-2
 all-natural-requires-2 c κs =

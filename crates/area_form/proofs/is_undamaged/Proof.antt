@@ -51,10 +51,14 @@ places-fit-requires c κs = ready-here (c .before .before .before .before)
 returns-2 : tie.Need-returns-2
 unfolding undamaged
 returns-2 c =
+    let opener-fits = c .before .before .before .before .opener-fits in
+    let kept-in-range = c .before .before .before .kept-in-range in
+    let saved-in-range = c .before .before .saved-in-range in
+    let uses-rise = c .before .uses-rise in
     let f = fit-here (c .before .before .before .before .before) in
-    let k = c .before .before .before .kept-in-range .ensures in
+    let k = kept-in-range .ensures in
     rw (f .legible-is)
-    (and-same (and-same (and-same (and-same (c .before .before .before .before .opener-fits .ensures ∙ opener-is f) (k ∙ ap (keptInRange _ _) (sym (kept-at _ _)))) (c .before .before .saved-in-range .ensures)) (c .before .uses-rise .ensures ∙ rise-is f)) (c .places-fit .ensures))
+    (and-same (and-same (and-same (and-same (opener-fits .ensures ∙ opener-is f) (k ∙ ap (keptInRange _ _) (sym (kept-at _ _)))) (saved-in-range .ensures)) (uses-rise .ensures ∙ rise-is f)) (c .places-fit .ensures))
 
 pub is-undamaged-spec : {M : Type 1} → statement M
 is-undamaged-spec =

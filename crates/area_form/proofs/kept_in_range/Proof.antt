@@ -40,7 +40,10 @@ turn c =
     ap (λ n. inRange n (getD (a .area .now) (a .at + c .before .before .before .loop .k) (pos 0))) (sym (c .before .kept-limit .ensures)) ∙ sym (c .is-in-range-at .ensures)
 
 returns : tie.Need-returns Inv-loop μ-loop
-returns c = sym (c .before .before .before .before .loop .inv .1 ∙ kept-stop _ _ _ _ (c .before .before .before .loop-test .taken) (c .before .before .before .before .before .before .pre .1) (turn (c .before) ∙ not-true _ (c .if1 .taken)))
+returns c =
+    let loop = c .before .before .before .before .loop in
+    let loop-test = c .before .before .before .loop-test in
+    sym (loop .inv .1 ∙ kept-stop _ _ _ _ (loop-test .taken) (c .before .before .before .before .before .before .pre .1) (turn (c .before) ∙ not-true _ (c .if1 .taken)))
 
 add-k : tie.Need-add-k Inv-loop μ-loop
 add-k c = search needs
@@ -49,7 +52,10 @@ loop-less : tie.Need-loop-less Inv-loop μ-loop
 loop-less c = search needs
 
 loop-again : tie.Need-loop-again Inv-loop μ-loop
-loop-again c = (search needs, c .before .before .before .before .loop .inv .1 ∙ kept-go _ _ _ _ (c .before .before .before .loop-test .taken) (c .before .before .before .before .before .before .pre .1) (turn (c .before) ∙ not-false _ (c .if1 .left)))
+loop-again c =
+    let loop = c .before .before .before .before .loop in
+    let loop-test = c .before .before .before .loop-test in
+    (search needs, loop .inv .1 ∙ kept-go _ _ _ _ (loop-test .taken) (c .before .before .before .before .before .before .pre .1) (turn (c .before) ∙ not-false _ (c .if1 .left)))
 
 returns-2 : tie.Need-returns-2 Inv-loop μ-loop
 returns-2 c = sym (c .before .loop .inv .1 ∙ kept-none _ _ _ _ (c .loop-test .left))

@@ -45,8 +45,11 @@ kept-in-range-requires c κs = (c .before .before .before .before .pre .accepted
 returns : tie.Need-returns Inv-loop μ-loop
 unfolding savedPart
 returns c =
+    let loop = c .before .before .before .loop in
+    let loop-test = c .before .before .loop-test in
+    let kept-in-range = c .before .kept-in-range in
     let a = c .before .before .before .before .before .before .args in
-    sym (c .before .before .before .loop .inv .1 ∙ all-stop (savedPart (schemaOf (a .schema .now)) (a .area .now)) _ _ (c .before .before .loop-test .taken) (sym (c .before .kept-in-range .ensures) ∙ not-true _ (c .if1 .taken)))
+    sym (loop .inv .1 ∙ all-stop (savedPart (schemaOf (a .schema .now)) (a .area .now)) _ _ (loop-test .taken) (sym (kept-in-range .ensures) ∙ not-true _ (c .if1 .taken)))
 
 add-i : tie.Need-add-i Inv-loop μ-loop
 add-i c = search needs
@@ -57,8 +60,11 @@ loop-less c = search needs
 loop-again : tie.Need-loop-again Inv-loop μ-loop
 unfolding savedPart
 loop-again c =
+    let loop = c .before .before .before .loop in
+    let loop-test = c .before .before .loop-test in
+    let kept-in-range = c .before .kept-in-range in
     let a = c .before .before .before .before .before .before .args in
-    (search needs, c .before .before .before .loop .inv .1 ∙ all-go (savedPart (schemaOf (a .schema .now)) (a .area .now)) _ _ (c .before .before .loop-test .taken) (sym (c .before .kept-in-range .ensures) ∙ not-false _ (c .if1 .left)))
+    (search needs, loop .inv .1 ∙ all-go (savedPart (schemaOf (a .schema .now)) (a .area .now)) _ _ (loop-test .taken) (sym (kept-in-range .ensures) ∙ not-false _ (c .if1 .left)))
 
 returns-2 : tie.Need-returns-2 Inv-loop μ-loop
 returns-2 c = sym (c .before .loop .inv .1 ∙ all-none _ _ _ (c .loop-test .left))

@@ -24,7 +24,9 @@ nat-at-requires-2 : tie.Need-nat-at-requires-2 Inv-loop μ-loop
 nat-at-requires-2 c κs = search needs
 
 loop-holds : tie.Need-loop-holds Inv-loop μ-loop
-loop-holds c = (omega (arith, c .nat-at2 .ensures, c .before .before .pre .1), sym (ap₂ (λ u n. usesRise u (lowestLevels n (c .before .before .args .area .now))) (c .before .nat-at .ensures) (c .nat-at2 .ensures)))
+loop-holds c =
+    let nat-at = c .before .nat-at in
+    (omega (arith, c .nat-at2 .ensures, c .before .before .pre .1), sym (ap₂ (λ u n. usesRise u (lowestLevels n (c .before .before .args .area .now))) (nat-at .ensures) (c .nat-at2 .ensures)))
 
 sub-i : tie.Need-sub-i Inv-loop μ-loop
 sub-i c = search needs
@@ -40,18 +42,22 @@ nat-at-requires-3 c κs = search needs
 
 returns : tie.Need-returns Inv-loop μ-loop
 returns c =
-    let a = c .before .before .before .before .before .before .args .area .now in
     let l = c .before .before .before .loop in
-    sym (l .inv .1 ∙ rise-stop a (l .above) (l .i) (c .before .before .loop-test .taken) (l .inv .0) (c .before .before .before .before .before .before .pre .0) (rw (c .before .nat-at3 .ensures) at (c .if1 .taken)))
+    let loop-test = c .before .before .loop-test in
+    let nat-at3 = c .before .nat-at3 in
+    let a = c .before .before .before .before .before .before .args .area .now in
+    sym (l .inv .1 ∙ rise-stop a (l .above) (l .i) (loop-test .taken) (l .inv .0) (c .before .before .before .before .before .before .pre .0) (rw (nat-at3 .ensures) at (c .if1 .taken)))
 
 loop-less : tie.Need-loop-less Inv-loop μ-loop
 loop-less c = search needs
 
 loop-again : tie.Need-loop-again Inv-loop μ-loop
 loop-again c =
-    let a = c .before .before .before .before .before .before .args .area .now in
     let l = c .before .before .before .loop in
-    (search needs, l .inv .1 ∙ rise-go a (l .above) (l .i) (c .before .before .loop-test .taken) (l .inv .0) (c .before .before .before .before .before .before .pre .0) (rw (c .before .nat-at3 .ensures) at (c .if1 .left)) ∙ ap (λ u. usesRise u (lowestLevels (l .i - 1) a)) (sym (c .before .nat-at3 .ensures)))
+    let loop-test = c .before .before .loop-test in
+    let nat-at3 = c .before .nat-at3 in
+    let a = c .before .before .before .before .before .before .args .area .now in
+    (search needs, l .inv .1 ∙ rise-go a (l .above) (l .i) (loop-test .taken) (l .inv .0) (c .before .before .before .before .before .before .pre .0) (rw (nat-at3 .ensures) at (c .if1 .left)) ∙ ap (λ u. usesRise u (lowestLevels (l .i - 1) a)) (sym (nat-at3 .ensures)))
 
 returns-2 : tie.Need-returns-2 Inv-loop μ-loop
 returns-2 c =

@@ -27,10 +27,14 @@ read-kind-requires c κs = search needs
 
 returns-3 : tie.Need-returns-3
 returns-3 c =
+    let if1 = c .before .before .before .before .if1 in
+    let is-natural-at = c .before .before .before .is-natural-at in
+    let if2 = c .before .before .if2 in
+    let nat-at = c .before .nat-at in
     let a = c .before .before .before .before .before .before .args in
     c .read-kind .ensures
-    ∙ ap (λ k. judged (schemaOf (a .schema .now)) (parsed k (a .call .now))) (c .before .nat-at .ensures)
-    ∙ ap (judged (schemaOf (a .schema .now))) (parse-kind (schemaOf (a .schema .now)) (a .call .now) (c .before .before .before .before .if1 .left) (sym (c .before .before .before .is-natural-at .ensures) ∙ not-false _ (c .before .before .if2 .left)))
+    ∙ ap (λ k. judged (schemaOf (a .schema .now)) (parsed k (a .call .now))) (nat-at .ensures)
+    ∙ ap (judged (schemaOf (a .schema .now))) (parse-kind (schemaOf (a .schema .now)) (a .call .now) (if1 .left) (sym (is-natural-at .ensures) ∙ not-false _ (if2 .left)))
 
 pub read-call-spec : {M : Type 1} → statement M
 read-call-spec =

@@ -30,7 +30,11 @@ loop-less : tie.Need-loop-less Inv-loop μ-loop
 loop-less c = search needs
 
 loop-again : tie.Need-loop-again Inv-loop μ-loop
-loop-again c = (search needs, c .before .before .before .loop .inv .1 ∙ values-go _ _ _ (omega (arith, c .before .before .loop-test .taken)) (sym (c .before .value-fits .ensures) ∙ not-false _ (c .if1 .left)))
+loop-again c =
+    let loop = c .before .before .before .loop in
+    let loop-test = c .before .before .loop-test in
+    let value-fits = c .before .value-fits in
+    (search needs, loop .inv .1 ∙ values-go _ _ _ (omega (arith, loop-test .taken)) (sym (value-fits .ensures) ∙ not-false _ (c .if1 .left)))
 
 returns-2 : tie.Need-returns-2 Inv-loop μ-loop
 unfolding valuesFrom

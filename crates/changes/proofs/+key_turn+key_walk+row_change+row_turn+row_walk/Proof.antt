@@ -207,12 +207,15 @@ key-walk-returns : (t : ℕ) → key-walk-lts.Need-returns (
   key-turn.Post,
 ) (key-walk-at t) key-walk.Post key-walk-Inv-loop key-walk-μ-loop
 key-walk-returns t c =
+    let key-count = c .before .before .before .before .before .before .before .before .before .key-count in
+    let l = c .before .before .before .before .before .before .before .before .loop in
+    let loop-test = c .before .before .before .before .before .before .before .loop-test in
+    let key-turn = c .before .before .before .before .key-turn in
     let s = c .before .before .before .before .before .before .before .before .before .before .before in
     let a = s .args in
     let sc = schemaOf (a .schema .now) in
-    let l = c .before .before .before .before .before .before .before .before .loop in
-    let lt : l .k < length (sc .keys) = omega (arith, c .before .before .before .before .before .before .before .before .before .key-count .ensures .0, c .before .before .before .before .before .before .before .loop-test .taken) in
-    (sym (l .inv .1 .1 .1 ∙ law.keys-refused (change (a .left) sc) sc (a .new) (a .t) (a .old) (l .k) _ lt _ _ (c .before .before .before .before .key-turn .ensures .0) (c .before .c .given .1)), follows-trans (l .inv .1 .1 .0) (c .before .before .before .before .key-turn .ensures .1))
+    let lt : l .k < length (sc .keys) = omega (arith, key-count .ensures .0, loop-test .taken) in
+    (sym (l .inv .1 .1 .1 ∙ law.keys-refused (change (a .left) sc) sc (a .new) (a .t) (a .old) (l .k) _ lt _ _ (key-turn .ensures .0) (c .before .c .given .1)), follows-trans (l .inv .1 .1 .0) (key-turn .ensures .1))
 
 key-walk-add-k : (t : ℕ) → key-walk-lts.Need-add-k (
   key-count-reads.Asked,
@@ -237,12 +240,15 @@ key-walk-loop-again : (t : ℕ) → key-walk-lts.Need-loop-again (
   key-turn.Post,
 ) (key-walk-at t) key-walk.Post key-walk-Inv-loop key-walk-μ-loop
 key-walk-loop-again t c =
+    let key-count = c .before .before .before .before .before .before .before .before .key-count in
+    let l = c .before .before .before .before .before .before .before .loop in
+    let loop-test = c .before .before .before .before .before .before .loop-test in
+    let key-turn = c .before .before .before .key-turn in
     let s = c .before .before .before .before .before .before .before .before .before .before in
     let a = s .args in
     let sc = schemaOf (a .schema .now) in
-    let l = c .before .before .before .before .before .before .before .loop in
-    let lt : l .k < length (sc .keys) = omega (arith, c .before .before .before .before .before .before .before .before .key-count .ensures .0, c .before .before .before .before .before .before .loop-test .taken) in
-    (search needs, (search needs, (follows-trans (l .inv .1 .1 .0) (c .before .before .before .key-turn .ensures .1), l .inv .1 .1 .1 ∙ law.keys-done (change (a .left) sc) sc (a .new) (a .t) (a .old) (l .k) _ lt _ _ (c .before .before .before .key-turn .ensures .0) (c .enum-told .given .1))))
+    let lt : l .k < length (sc .keys) = omega (arith, key-count .ensures .0, loop-test .taken) in
+    (search needs, (search needs, (follows-trans (l .inv .1 .1 .0) (key-turn .ensures .1), l .inv .1 .1 .1 ∙ law.keys-done (change (a .left) sc) sc (a .new) (a .t) (a .old) (l .k) _ lt _ _ (key-turn .ensures .0) (c .enum-told .given .1))))
 
 key-walk-same-length-2 : (t : ℕ) → key-walk-lts.Need-same-length-2 (
   key-count-reads.Asked,
@@ -386,13 +392,18 @@ row-change-returns-3 : (t : ℕ) → row-change-lts.Need-returns-3 (
   key-walk.Post,
 ) (row-change-at t) row-change.Post
 row-change-returns-3 t c =
+    let if1 = c .before .before .before .before .before .before .before .before .before .before .before .before .if1 in
+    let admits = c .before .before .before .before .before .before .before .before .before .before .admits in
+    let enum-told = c .before .before .before .before .before .before .before .before .enum-told in
+    let write-tallied = c .before .before .before .before .before .write-tallied in
+    let key-walk = c .before .key-walk in
     let s = c .before .before .before .before .before .before .before .before .before .before .before .before .before .before in
     let a = s .args in
     let sc = schemaOf (a .schema .now) in (
-      c .before .key-walk .ensures .0
-          ∙ ap₂ (λ (x : List ℤ) (w : Work). actions (change (a .left - 1) sc) sc (a .image) (a .t) x (sc .keys) w) (c .before .before .before .before .before .write-tallied .ensures .0) (c .before .before .before .before .before .write-tallied .ensures .1 .0)
-          ∙ law.change-more _ _ _ _ _ _ (c .before .before .before .before .before .before .before .before .before .before .before .before .if1 .left) _ (c .before .before .before .before .before .before .before .before .before .before .admits .ensures) (c .before .before .before .before .before .before .before .before .enum-told .given .1),
-      follows-trans (c .before .before .before .before .before .write-tallied .ensures .1 .1) (c .before .key-walk .ensures .1),
+      key-walk .ensures .0
+          ∙ ap₂ (λ (x : List ℤ) (w : Work). actions (change (a .left - 1) sc) sc (a .image) (a .t) x (sc .keys) w) (write-tallied .ensures .0) (write-tallied .ensures .1 .0)
+          ∙ law.change-more _ _ _ _ _ _ (if1 .left) _ (admits .ensures) (enum-told .given .1),
+      follows-trans (write-tallied .ensures .1 .1) (key-walk .ensures .1),
     )
 
 row-turn-action-of-requires : (t : ℕ) → row-turn-lts.Need-action-of-requires (
@@ -555,10 +566,14 @@ row-turn-returns-3 : (t : ℕ) → row-turn-lts.Need-returns-3 (
   row-change.Post,
 ) (row-turn-at t) row-turn.Post
 row-turn-returns-3 t c =
+    let action-of = c .before .before .before .before .before .before .before .before .action-of in
+    let enum-told3 = c .before .before .before .before .before .before .enum-told3 in
+    let child-after = c .before .before .before .before .child-after in
+    let row-change = c .before .row-change in
     let s = c .before .before .before .before .before .before .before .before .before .before in
     let a = s .args in
     let sc = schemaOf (a .schema .now) in
-    (c .before .row-change .ensures .0 ∙ law.row-null (change (a .left) sc) sc (a .new) (keyOf sc (a .k)) (a .j) (image (a .t) (a .j) (workOf sc (a .area .now) .tabs)) (workOf sc (a .area .now)) _ (c .before .before .before .before .before .before .before .before .action-of .ensures) (a .t) (s .pre .1 .1 .child) _ (c .before .before .before .before .before .before .enum-told3 .given .1) (c .before .before .before .before .child-after .ensures), c .before .row-change .ensures .1)
+    (row-change .ensures .0 ∙ law.row-null (change (a .left) sc) sc (a .new) (keyOf sc (a .k)) (a .j) (image (a .t) (a .j) (workOf sc (a .area .now) .tabs)) (workOf sc (a .area .now)) _ (action-of .ensures) (a .t) (s .pre .1 .1 .child) _ (enum-told3 .given .1) (child-after .ensures), row-change .ensures .1)
 
 row-turn-same-length-2 : (t : ℕ) → row-turn-lts.Need-same-length-2 (
   action-of-reads.Asked,
@@ -579,10 +594,14 @@ row-turn-returns-4 : (t : ℕ) → row-turn-lts.Need-returns-4 (
   row-change.Post,
 ) (row-turn-at t) row-turn.Post
 row-turn-returns-4 t c =
+    let action-of = c .before .before .before .before .before .before .before .before .action-of in
+    let enum-told4 = c .before .before .before .before .before .before .enum-told4 in
+    let child-after2 = c .before .before .before .before .child-after2 in
+    let row-change2 = c .before .row-change2 in
     let s = c .before .before .before .before .before .before .before .before .before .before in
     let a = s .args in
     let sc = schemaOf (a .schema .now) in
-    (c .before .row-change2 .ensures .0 ∙ law.row-default (change (a .left) sc) sc (a .new) (keyOf sc (a .k)) (a .j) (image (a .t) (a .j) (workOf sc (a .area .now) .tabs)) (workOf sc (a .area .now)) _ (c .before .before .before .before .before .before .before .before .action-of .ensures) (a .t) (s .pre .1 .1 .child) _ (c .before .before .before .before .before .before .enum-told4 .given .1) (c .before .before .before .before .child-after2 .ensures), c .before .row-change2 .ensures .1)
+    (row-change2 .ensures .0 ∙ law.row-default (change (a .left) sc) sc (a .new) (keyOf sc (a .k)) (a .j) (image (a .t) (a .j) (workOf sc (a .area .now) .tabs)) (workOf sc (a .area .now)) _ (action-of .ensures) (a .t) (s .pre .1 .1 .child) _ (enum-told4 .given .1) (child-after2 .ensures), row-change2 .ensures .1)
 
 row-turn-same-length-3 : (t : ℕ) → row-turn-lts.Need-same-length-3 (
   action-of-reads.Asked,
@@ -603,10 +622,14 @@ row-turn-returns-5 : (t : ℕ) → row-turn-lts.Need-returns-5 (
   row-change.Post,
 ) (row-turn-at t) row-turn.Post
 row-turn-returns-5 t c =
+    let action-of = c .before .before .before .before .before .before .before .before .action-of in
+    let enum-told5 = c .before .before .before .before .before .before .enum-told5 in
+    let child-after3 = c .before .before .before .before .child-after3 in
+    let row-change3 = c .before .row-change3 in
     let s = c .before .before .before .before .before .before .before .before .before .before in
     let a = s .args in
     let sc = schemaOf (a .schema .now) in
-    (c .before .row-change3 .ensures .0 ∙ law.row-cascade (change (a .left) sc) sc (a .new) (keyOf sc (a .k)) (a .j) (image (a .t) (a .j) (workOf sc (a .area .now) .tabs)) (workOf sc (a .area .now)) _ (c .before .before .before .before .before .before .before .before .action-of .ensures) (a .t) (s .pre .1 .1 .child) _ (c .before .before .before .before .before .before .enum-told5 .given .1) (c .before .before .before .before .child-after3 .ensures), c .before .row-change3 .ensures .1)
+    (row-change3 .ensures .0 ∙ law.row-cascade (change (a .left) sc) sc (a .new) (keyOf sc (a .k)) (a .j) (image (a .t) (a .j) (workOf sc (a .area .now) .tabs)) (workOf sc (a .area .now)) _ (action-of .ensures) (a .t) (s .pre .1 .1 .child) _ (enum-told5 .given .1) (child-after3 .ensures), row-change3 .ensures .1)
 
 abbrev row-walk-Inv-loop : row-walk-lts.InvT-loop
 row-walk-Inv-loop schema area₀ tally₀ k old new left t n j₀ area tally j = (j ≤ n) × ((length area ≡ length area₀) × (Follows (schemaOf schema) tally₀ area₀ tally area × (children (change left (schemaOf schema)) (schemaOf schema) new (keyOf (schemaOf schema) k) old (upFrom 0 (tableOf (schemaOf schema) (keyOf (schemaOf schema) k .child) .rows)) (workOf (schemaOf schema) area₀) ≡ children (change left (schemaOf schema)) (schemaOf schema) new (keyOf (schemaOf schema) k) old (upFrom j (n - j)) (workOf (schemaOf schema) area))))
@@ -666,11 +689,13 @@ row-walk-next-taken-requires : (t : ℕ) → row-walk-lts.Need-next-taken-requir
   row-turn.Post,
 ) (row-walk-at t) row-walk.Post row-walk-Inv-loop row-walk-μ-loop
 row-walk-next-taken-requires t c κs =
+    let child = c .before .before .before .before .child in
+    let rows = c .before .before .before .rows in
+    let l = c .before .before .loop in
     let s = c .before .before .before .before .before .before in
     let a = s .args in
     let sc = schemaOf (a .schema .now) in
-    let rn : c .before .before .before .rows .result ≡ tableOf sc (keyOf sc (a .k) .child) .rows = c .before .before .before .rows .ensures .0 ∙ ap (λ (u : ℕ). tableOf sc u .rows) (c .before .before .before .before .child .ensures .0) in
-    let l = c .before .before .loop in
+    let rn : rows .result ≡ tableOf sc (keyOf sc (a .k) .child) .rows = rows .ensures .0 ∙ ap (λ (u : ℕ). tableOf sc u .rows) (child .ensures .0) in
     (tallied-after (s .pre .1 .0) (l .inv .1 .1 .0) .ready, (s .pre .1 .1, omega (arith, rn, l .inv .0)))
 
 row-walk-same-length : (t : ℕ) → row-walk-lts.Need-same-length (
@@ -696,13 +721,16 @@ row-walk-returns : (t : ℕ) → row-walk-lts.Need-returns (
   row-turn.Post,
 ) (row-walk-at t) row-walk.Post row-walk-Inv-loop row-walk-μ-loop
 row-walk-returns t c =
+    let child = c .before .before .before .before .before .before .child in
+    let rows = c .before .before .before .before .before .rows in
+    let l = c .before .before .before .before .loop in
+    let next-taken = c .before .next-taken in
     let s = c .before .before .before .before .before .before .before .before in
     let a = s .args in
     let sc = schemaOf (a .schema .now) in
-    let rn : c .before .before .before .before .before .rows .result ≡ tableOf sc (keyOf sc (a .k) .child) .rows = c .before .before .before .before .before .rows .ensures .0 ∙ ap (λ (u : ℕ). tableOf sc u .rows) (c .before .before .before .before .before .before .child .ensures .0) in
-    let l = c .before .before .before .before .loop in
-    let f = c .before .next-taken .ensures in
-    (sym (l .inv .1 .1 .1 ∙ law.rows-past (change (a .left) sc) sc (a .new) (keyOf sc (a .k)) (a .old) (c .before .before .before .before .before .rows .result) (l .j) (c .before .next-taken .result) _ (f .low) (omega (arith, f .high, rn)) (c .if1 .taken) (f .skipped)), l .inv .1 .1 .0)
+    let rn : rows .result ≡ tableOf sc (keyOf sc (a .k) .child) .rows = rows .ensures .0 ∙ ap (λ (u : ℕ). tableOf sc u .rows) (child .ensures .0) in
+    let f = next-taken .ensures in
+    (sym (l .inv .1 .1 .1 ∙ law.rows-past (change (a .left) sc) sc (a .new) (keyOf sc (a .k)) (a .old) (rows .result) (l .j) (next-taken .result) _ (f .low) (omega (arith, f .high, rn)) (c .if1 .taken) (f .skipped)), l .inv .1 .1 .0)
 
 row-walk-row-turn-requires : (t : ℕ) → row-walk-lts.Need-row-turn-requires (
   child-reads.Asked,
@@ -715,14 +743,17 @@ row-walk-row-turn-requires : (t : ℕ) → row-walk-lts.Need-row-turn-requires (
   row-turn.Post,
 ) (row-walk-at t) row-walk.Post row-walk-Inv-loop row-walk-μ-loop
 row-walk-row-turn-requires t c κs =
+    let rows = c .before .before .before .before .before .before .before .rows in
+    let l = c .before .before .before .before .before .before .loop in
+    let next-taken = c .before .before .before .next-taken in
+    let if1 = c .before .before .if1 in
     let s = c .before .before .before .before .before .before .before .before .before .before in
     let a = s .args in
     let sc = schemaOf (a .schema .now) in
-    let rn : c .before .before .before .before .before .before .before .rows .result ≡ tableOf sc (keyOf sc (a .k) .child) .rows = c .before .before .before .before .before .before .before .rows .ensures .0 ∙ ap (λ (u : ℕ). tableOf sc u .rows) (c .before .before .before .before .before .before .before .before .child .ensures .0) in
-    let l = c .before .before .before .before .before .before .loop in
-    let f = c .before .before .before .next-taken .ensures in
-    let lt : c .before .before .before .next-taken .result < c .before .before .before .before .before .before .before .rows .result = omega (arith, c .before .before .if1 .left) in
-    (search needs, (record { tallied = tallied-after (s .pre .1 .0) (l .inv .1 .1 .0); table = c .before .before .before .before .before .before .before .before .child .ensures .1; row = omega (arith, lt, c .before .before .before .before .before .before .before .rows .ensures .0) }, record { accepted = s .pre .1 .0 .ready .accepted; key = s .pre .1 .1; child = c .before .before .before .before .before .before .before .before .child .ensures .0 }))
+    let rn : rows .result ≡ tableOf sc (keyOf sc (a .k) .child) .rows = rows .ensures .0 ∙ ap (λ (u : ℕ). tableOf sc u .rows) (c .before .before .before .before .before .before .before .before .child .ensures .0) in
+    let f = next-taken .ensures in
+    let lt : next-taken .result < rows .result = omega (arith, if1 .left) in
+    (search needs, (record { tallied = tallied-after (s .pre .1 .0) (l .inv .1 .1 .0); table = c .before .before .before .before .before .before .before .before .child .ensures .1; row = omega (arith, lt, rows .ensures .0) }, record { accepted = s .pre .1 .0 .ready .accepted; key = s .pre .1 .1; child = c .before .before .before .before .before .before .before .before .child .ensures .0 }))
 
 row-walk-enum-told : (t : ℕ) → row-walk-lts.Need-enum-told (
   child-reads.Asked,
@@ -771,14 +802,19 @@ row-walk-returns-2 : (t : ℕ) → row-walk-lts.Need-returns-2 (
   row-turn.Post,
 ) (row-walk-at t) row-walk.Post row-walk-Inv-loop row-walk-μ-loop
 row-walk-returns-2 t c =
+    let child = c .before .before .before .before .before .before .before .before .before .before .before .before .before .child in
+    let rows = c .before .before .before .before .before .before .before .before .before .before .before .before .rows in
+    let l = c .before .before .before .before .before .before .before .before .before .before .before .loop in
+    let next-taken = c .before .before .before .before .before .before .before .before .next-taken in
+    let if1 = c .before .before .before .before .before .before .before .if1 in
+    let row-turn = c .before .before .before .before .row-turn in
     let s = c .before .before .before .before .before .before .before .before .before .before .before .before .before .before .before in
     let a = s .args in
     let sc = schemaOf (a .schema .now) in
-    let rn : c .before .before .before .before .before .before .before .before .before .before .before .before .rows .result ≡ tableOf sc (keyOf sc (a .k) .child) .rows = c .before .before .before .before .before .before .before .before .before .before .before .before .rows .ensures .0 ∙ ap (λ (u : ℕ). tableOf sc u .rows) (c .before .before .before .before .before .before .before .before .before .before .before .before .before .child .ensures .0) in
-    let l = c .before .before .before .before .before .before .before .before .before .before .before .loop in
-    let f = c .before .before .before .before .before .before .before .before .next-taken .ensures in
-    let lt : c .before .before .before .before .before .before .before .before .next-taken .result < c .before .before .before .before .before .before .before .before .before .before .before .before .rows .result = omega (arith, c .before .before .before .before .before .before .before .if1 .left) in
-    (sym (l .inv .1 .1 .1 ∙ law.rows-refused (change (a .left) sc) sc (a .new) (keyOf sc (a .k)) (a .old) (c .before .before .before .before .before .before .before .before .before .before .before .before .rows .result) (l .j) (c .before .before .before .before .before .before .before .before .next-taken .result) _ (f .low) lt (f .skipped) (f .found (omega (arith, lt, rn))) (c .before .before .before .before .before .before .before .before .before .before .before .before .before .child .result) (c .before .before .before .before .before .before .before .before .before .before .before .before .before .child .ensures .0) _ _ (c .before .before .before .before .row-turn .ensures .0) (c .before .c .given .1)), follows-trans (l .inv .1 .1 .0) (c .before .before .before .before .row-turn .ensures .1))
+    let rn : rows .result ≡ tableOf sc (keyOf sc (a .k) .child) .rows = rows .ensures .0 ∙ ap (λ (u : ℕ). tableOf sc u .rows) (child .ensures .0) in
+    let f = next-taken .ensures in
+    let lt : next-taken .result < rows .result = omega (arith, if1 .left) in
+    (sym (l .inv .1 .1 .1 ∙ law.rows-refused (change (a .left) sc) sc (a .new) (keyOf sc (a .k)) (a .old) (rows .result) (l .j) (next-taken .result) _ (f .low) lt (f .skipped) (f .found (omega (arith, lt, rn))) (child .result) (child .ensures .0) _ _ (row-turn .ensures .0) (c .before .c .given .1)), follows-trans (l .inv .1 .1 .0) (row-turn .ensures .1))
 
 row-walk-add-j : (t : ℕ) → row-walk-lts.Need-add-j (
   child-reads.Asked,
@@ -815,14 +851,19 @@ row-walk-loop-again : (t : ℕ) → row-walk-lts.Need-loop-again (
   row-turn.Post,
 ) (row-walk-at t) row-walk.Post row-walk-Inv-loop row-walk-μ-loop
 row-walk-loop-again t c =
+    let child = c .before .before .before .before .before .before .before .before .before .before .before .before .child in
+    let rows = c .before .before .before .before .before .before .before .before .before .before .before .rows in
+    let l = c .before .before .before .before .before .before .before .before .before .before .loop in
+    let next-taken = c .before .before .before .before .before .before .before .next-taken in
+    let if1 = c .before .before .before .before .before .before .if1 in
+    let row-turn = c .before .before .before .row-turn in
     let s = c .before .before .before .before .before .before .before .before .before .before .before .before .before .before in
     let a = s .args in
     let sc = schemaOf (a .schema .now) in
-    let rn : c .before .before .before .before .before .before .before .before .before .before .before .rows .result ≡ tableOf sc (keyOf sc (a .k) .child) .rows = c .before .before .before .before .before .before .before .before .before .before .before .rows .ensures .0 ∙ ap (λ (u : ℕ). tableOf sc u .rows) (c .before .before .before .before .before .before .before .before .before .before .before .before .child .ensures .0) in
-    let l = c .before .before .before .before .before .before .before .before .before .before .loop in
-    let f = c .before .before .before .before .before .before .before .next-taken .ensures in
-    let lt : c .before .before .before .before .before .before .before .next-taken .result < c .before .before .before .before .before .before .before .before .before .before .before .rows .result = omega (arith, c .before .before .before .before .before .before .if1 .left) in
-    (omega (arith, lt), (search needs, (follows-trans (l .inv .1 .1 .0) (c .before .before .before .row-turn .ensures .1), l .inv .1 .1 .1 ∙ law.rows-done (change (a .left) sc) sc (a .new) (keyOf sc (a .k)) (a .old) (c .before .before .before .before .before .before .before .before .before .before .before .rows .result) (l .j) (c .before .before .before .before .before .before .before .next-taken .result) _ (f .low) lt (f .skipped) (f .found (omega (arith, lt, rn))) (c .before .before .before .before .before .before .before .before .before .before .before .before .child .result) (c .before .before .before .before .before .before .before .before .before .before .before .before .child .ensures .0) _ _ (c .before .before .before .row-turn .ensures .0) (c .enum-told .given .1))))
+    let rn : rows .result ≡ tableOf sc (keyOf sc (a .k) .child) .rows = rows .ensures .0 ∙ ap (λ (u : ℕ). tableOf sc u .rows) (child .ensures .0) in
+    let f = next-taken .ensures in
+    let lt : next-taken .result < rows .result = omega (arith, if1 .left) in
+    (omega (arith, lt), (search needs, (follows-trans (l .inv .1 .1 .0) (row-turn .ensures .1), l .inv .1 .1 .1 ∙ law.rows-done (change (a .left) sc) sc (a .new) (keyOf sc (a .k)) (a .old) (rows .result) (l .j) (next-taken .result) _ (f .low) lt (f .skipped) (f .found (omega (arith, lt, rn))) (child .result) (child .ensures .0) _ _ (row-turn .ensures .0) (c .enum-told .given .1))))
 
 row-walk-same-length-3 : (t : ℕ) → row-walk-lts.Need-same-length-3 (
   child-reads.Asked,

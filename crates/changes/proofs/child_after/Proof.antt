@@ -21,10 +21,11 @@ parent-columns-requires c κs = search needs
 
 acted-requires : tie.Need-acted-requires
 acted-requires c κs =
+    let width = c .before .before .width in
     let s = c .before .before .before .before .before in
     let child-columns = c .before .child-columns in
     let parent-columns = c .parent-columns in
-    key-columns (s .args .schema .now) (s .pre .1 .accepted) (s .args .k) (s .pre .1 .key) (c .before .before .width .ensures .0) (parent-columns .result) (parent-columns .ensures) (child-columns .result) (child-columns .ensures)
+    key-columns (s .args .schema .now) (s .pre .1 .accepted) (s .args .k) (s .pre .1 .key) (width .ensures .0) (parent-columns .result) (parent-columns .ensures) (child-columns .result) (child-columns .ensures)
 
 returns : tie.Need-returns
 returns c =

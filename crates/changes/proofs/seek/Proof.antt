@@ -39,10 +39,11 @@ has-key-requires c κs =
 
 returns : tie.Need-returns Inv-loop μ-loop
 returns c =
+    let has-key = c .before .has-key in
     let s = c .before .before .before .before in
     let loop = c .before .before .before .loop in
     let loop-test = c .before .before .loop-test in
-    law.first-stop (loop .j) (loop .inv .0) (loop-test .taken) (loop .inv .1 .1) (sym (c .before .has-key .ensures ∙ law.match-is (s .args .area .now) (s .args .table) _ _ (s .args .old .now) (loop .j) (loop-test .taken)) ∙ c .if1 .taken)
+    law.first-stop (loop .j) (loop .inv .0) (loop-test .taken) (loop .inv .1 .1) (sym (has-key .ensures ∙ law.match-is (s .args .area .now) (s .args .table) _ _ (s .args .old .now) (loop .j) (loop-test .taken)) ∙ c .if1 .taken)
 
 add-j : tie.Need-add-j Inv-loop μ-loop
 add-j c = search needs
@@ -52,10 +53,11 @@ loop-less c = search needs
 
 loop-again : tie.Need-loop-again Inv-loop μ-loop
 loop-again c =
+    let has-key = c .before .has-key in
     let s = c .before .before .before .before in
     let loop = c .before .before .before .loop in
     let loop-test = c .before .before .loop-test in
-    (omega (arith, loop .inv .0), (omega (arith, loop-test .taken), law.skip-more (loop .j) (loop .inv .1 .1) (sym (law.match-is (s .args .area .now) (s .args .table) _ _ (s .args .old .now) (loop .j) (loop-test .taken)) ∙ sym (c .before .has-key .ensures) ∙ c .if1 .left)))
+    (omega (arith, loop .inv .0), (omega (arith, loop-test .taken), law.skip-more (loop .j) (loop .inv .1 .1) (sym (law.match-is (s .args .area .now) (s .args .table) _ _ (s .args .old .now) (loop .j) (loop-test .taken)) ∙ sym (has-key .ensures) ∙ c .if1 .left)))
 
 returns-2 : tie.Need-returns-2 Inv-loop μ-loop
 returns-2 c = law.first-none (c .before .loop .j) (c .before .loop .inv .0) (omega (arith, c .loop-test .left)) (c .before .loop .inv .1 .0) (c .before .loop .inv .1 .1)

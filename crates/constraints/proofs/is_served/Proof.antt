@@ -20,18 +20,22 @@ rows-of-requires c κs = search needs
 
 any-with-key-requires : tie.Need-any-with-key-requires
 any-with-key-requires c κs =
+    let parent = c .before .before .before .before .parent in
+    let rows-of = c .before .before .before .rows-of in
     let s = c .before .before .before .before .before .before in
-    let there = c .before .before .before .before .parent .ensures in
-    let stands = standing (s .args .schema .now) (s .args .area .now) (s .pre .0) (c .before .before .before .before .parent .result) (there .1) (c .before .before .before .rows-of .result) (c .before .before .before .rows-of .ensures) in
-    (stands, (some-columns _ _ _ _ _ (s .pre .1), (parent-in _ _ _ _ _ (s .pre .1) (there .0) (c .before .before .before .rows-of .ensures), child-wide _ _ _ _ _ (s .pre .1))))
+    let there = parent .ensures in
+    let stands = standing (s .args .schema .now) (s .args .area .now) (s .pre .0) (parent .result) (there .1) (rows-of .result) (rows-of .ensures) in
+    (stands, (some-columns _ _ _ _ _ (s .pre .1), (parent-in _ _ _ _ _ (s .pre .1) (there .0) (rows-of .ensures), child-wide _ _ _ _ _ (s .pre .1))))
 
 returns : tie.Need-returns
 returns c =
+    let parent = c .before .before .before .before .before .parent in
+    let rows-of = c .before .before .before .before .rows-of in
     let s = c .before .before .before .before .before .before .before in
     let K = keyOf (schemaOf (s .args .schema .now)) (s .args .k) in
     let tabs = workOf (schemaOf (s .args .schema .now)) (s .args .area .now) .tabs in
-    let there = c .before .before .before .before .before .parent .ensures in
-    let rows = rows-are (s .args .schema .now) (s .args .area .now) (s .pre .0) (c .before .before .before .before .before .parent .result) (there .1) (c .before .before .before .before .rows-of .result) (c .before .before .before .before .rows-of .ensures) in
+    let there = parent .ensures in
+    let rows = rows-are (s .args .schema .now) (s .args .area .now) (s .pre .0) (parent .result) (there .1) (rows-of .result) (rows-of .ensures) in
     let parents = ap (λ (t : ℕ). getD tabs t []) (there .0) in
     c .any-with-key .ensures ∙ any-serving _ _ _ _ ∙ served-is K (s .pre .1 .child-is) (s .pre .1 .parent-is) tabs (rows ∙ parents) _
 

@@ -27,10 +27,11 @@ same-length-2 c = search needs
 returns-2 : tie.Need-returns-2
 unfolding deletedImage
 returns-2 c =
+    let change-row = c .before .change-row in
     let s = c .before .before .before .before .before .before .before in
     let is-live-row = c .before .before .before .before .is-live-row in
     let if1 = c .before .before .before .if1 in
-    law.delete-stated (s .args .schema .now) (s .args .area .now) (s .args .t) (s .args .r) (s .pre .0 .ready .fit) _ (is-live-row .ensures) 0 [] _ _ (c .before .change-row .ensures) (not-false _ (if1 .left)) refl
+    law.delete-stated (s .args .schema .now) (s .args .area .now) (s .args .t) (s .args .r) (s .pre .0 .ready .fit) _ (is-live-row .ensures) 0 [] _ _ (change-row .ensures) (not-false _ (if1 .left)) refl
 
 pub delete-spec : {M : Type 1} → statement M
 delete-spec =

@@ -31,12 +31,13 @@ same-length-2 c = search needs
 
 returns-2 : tie.Need-returns-2
 returns-2 c =
+    let change-row = c .before .change-row in
     let s = c .before .before .before .before .before .before .before .before .before in
     let is-live-row = c .before .before .before .before .before .before .is-live-row in
     let if1 = c .before .before .before .before .before .if1 in
     let columns = c .before .before .before .before .columns in
     let live-image = c .before .before .before .live-image in
-    law.update-stated (s .args .schema .now) (s .args .area .now) (s .args .t) (s .args .r) (s .pre .sound .ready .fit) _ (is-live-row .ensures) _ _ _ _ (c .before .change-row .ensures) (not-false _ (if1 .left)) _ (columns .ensures .0) (live-image .ensures)
+    law.update-stated (s .args .schema .now) (s .args .area .now) (s .args .t) (s .args .r) (s .pre .sound .ready .fit) _ (is-live-row .ensures) _ _ _ _ (change-row .ensures) (not-false _ (if1 .left)) _ (columns .ensures .0) (live-image .ensures)
 
 pub update-spec : {M : Type 1} → statement M
 update-spec =

@@ -26,7 +26,9 @@ byte-at-requires c κs = omega (arith, key-within (c .before .before .args .byte
 
 -- src/lib.rt:102:1
 returns : tie.Need-returns
-returns c = (c .byte-at .ensures .0 ∙ ap (λ (at : ℕ). Bytes.byte (c .before .before .before .args .bytes .now) (at + c .before .before .before .args .i)) (c .before .key-start .ensures), c .byte-at .ensures .1)
+returns c =
+    let key-start = c .before .key-start in
+    (c .byte-at .ensures .0 ∙ ap (λ (at : ℕ). Bytes.byte (c .before .before .before .args .bytes .now) (at + c .before .before .before .args .i)) (key-start .ensures), c .byte-at .ensures .1)
 
 pub key-byte-spec : {M : Type 1} → statement M
 key-byte-spec = tie.close (tie.spec key-start-requires add-byte-at byte-at-requires returns)

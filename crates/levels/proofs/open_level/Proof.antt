@@ -42,12 +42,16 @@ same-length c = search needs
 
 returns : tie.Need-returns
 returns c =
+    let nat-at = c .before .before .before .before .before .before .before .before .nat-at in
+    let nat-at2 = c .before .before .before .before .before .before .nat-at2 in
+    let numbers-at = c .before .before .before .before .numbers-at in
+    let put-level = c .before .before .put-level in
     let a : List ℤ = c .before .before .before .before .before .before .before .before .before .before .args .area .now in
     ap₂ (λ (l : List ℤ) (z : ℤ). set l 0 z)
-    (c .before .before .put-level .ensures
-    ∙ ap₂ (λ (n u : ℕ). sets a (36 + n * 33) (pos u ∷ c .before .before .before .before .numbers-at .result)) (c .before .before .before .before .before .before .before .before .nat-at .ensures) (c .before .before .before .before .before .before .nat-at2 .ensures)
-    ∙ ap (λ (k : List ℤ). sets a (36 + natOf (getD a 0 (pos 0)) * 33) (pos (natOf (getD a 2 (pos 0))) ∷ k)) (c .before .before .before .before .numbers-at .ensures))
-    ((back _ (c .word-of .ok) ∙ c .word-of .ensures) ∙ ap (λ (n : ℕ). pos (n + 1)) (c .before .before .before .before .before .before .before .before .nat-at .ensures))
+    (put-level .ensures
+    ∙ ap₂ (λ (n u : ℕ). sets a (36 + n * 33) (pos u ∷ numbers-at .result)) (nat-at .ensures) (nat-at2 .ensures)
+    ∙ ap (λ (k : List ℤ). sets a (36 + natOf (getD a 0 (pos 0)) * 33) (pos (natOf (getD a 2 (pos 0))) ∷ k)) (numbers-at .ensures))
+    ((back _ (c .word-of .ok) ∙ c .word-of .ensures) ∙ ap (λ (n : ℕ). pos (n + 1)) (nat-at .ensures))
 
 pub open-level-spec : {M : Type 1} → statement M
 open-level-spec =

@@ -26,16 +26,22 @@ add-put-numbers c = search needs
 
 put-numbers-requires : tie.Need-put-numbers-requires
 put-numbers-requires c κs =
-    let e : length (set (c .before .before .args .area .now) (c .before .before .args .at) (toZ w64 (ofZ w64 (c .before .word-of .result)))) ≡ length (c .before .before .args .area .now) = length-set (c .before .before .args .area .now) (c .before .before .args .at) (toZ w64 (ofZ w64 (c .before .word-of .result))) in
+    let word-of = c .before .word-of in
+    let e : length (set (c .before .before .args .area .now) (c .before .before .args .at) (toZ w64 (ofZ w64 (word-of .result)))) ≡ length (c .before .before .args .area .now) = length-set (c .before .before .args .area .now) (c .before .before .args .at) (toZ w64 (ofZ w64 (word-of .result))) in
     omega arith
 
 same-length : tie.Need-same-length
-same-length c = c .before .put-numbers .kept .0 ∙ length-set (c .before .before .before .before .args .area .now) (c .before .before .before .before .args .at) (toZ w64 (ofZ w64 (c .before .before .before .word-of .result)))
+same-length c =
+    let word-of = c .before .before .before .word-of in
+    let put-numbers = c .before .put-numbers in
+    put-numbers .kept .0 ∙ length-set (c .before .before .before .before .args .area .now) (c .before .before .before .before .args .at) (toZ w64 (ofZ w64 (word-of .result)))
 
 returns : tie.Need-returns
 returns c =
-    c .before .put-numbers .ensures
-    ∙ ap₂ (λ (n : ℕ) (z : ℤ). sets (set (c .before .before .before .before .args .area .now) (c .before .before .before .before .args .at) z) n (c .before .before .before .before .args .kept)) (add-one (c .before .before .before .before .args .at)) (back _ (c .before .before .before .word-of .ok) ∙ c .before .before .before .word-of .ensures)
+    let word-of = c .before .before .before .word-of in
+    let put-numbers = c .before .put-numbers in
+    put-numbers .ensures
+    ∙ ap₂ (λ (n : ℕ) (z : ℤ). sets (set (c .before .before .before .before .args .area .now) (c .before .before .before .before .args .at) z) n (c .before .before .before .before .args .kept)) (add-one (c .before .before .before .before .args .at)) (back _ (word-of .ok) ∙ word-of .ensures)
 
 pub put-level-spec : {M : Type 1} → statement M
 put-level-spec =

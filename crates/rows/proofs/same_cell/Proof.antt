@@ -47,10 +47,16 @@ bit-of-requires c κs = search needs
 
 returns-2 : tie.Need-returns-2
 returns-2 c =
+    let v = c .before .before .before .before .before .before .v in
+    let u = c .before .before .before .before .before .u in
+    let same-word = c .before .before .before .before .same-word in
+    let if1 = c .before .before .before .if1 in
+    let nat-at = c .before .before .nat-at in
+    let bit-of = c .before .bit-of in
     let s = c .before .before .before .before .before .before .before in
-    let e = c .before .before .before .before .same-word .ensures ∙ ap₂ sameValue (back _ (c .before .before .before .before .before .before .v .given)) (back _ (c .before .before .before .before .before .u .given)) in
-    let f = c .before .bit-of .ensures ∙ ap (bit (s .args .c)) (c .before .before .nat-at .ensures) in
-    cell-null _ _ _ _ _ _ (s .pre .1 .0) (sym e ∙ not-false _ (c .before .before .before .if1 .left)) (sym f ∙ c .if2 .taken)
+    let e = same-word .ensures ∙ ap₂ sameValue (back _ (v .given)) (back _ (u .given)) in
+    let f = bit-of .ensures ∙ ap (bit (s .args .c)) (nat-at .ensures) in
+    cell-null _ _ _ _ _ _ (s .pre .1 .0) (sym e ∙ not-false _ (if1 .left)) (sym f ∙ c .if2 .taken)
 
 element-copy-out-nat-of : tie.Need-element-copy-out-nat-of
 element-copy-out-nat-of c = search needs
@@ -63,11 +69,20 @@ bit-of-requires-2 c κs = search needs
 
 returns-3 : tie.Need-returns-3
 returns-3 c =
+    let v = c .before .before .before .before .before .before .before .before .before .v in
+    let u = c .before .before .before .before .before .before .before .before .u in
+    let same-word = c .before .before .before .before .before .before .before .same-word in
+    let if1 = c .before .before .before .before .before .before .if1 in
+    let nat-at = c .before .before .before .before .before .nat-at in
+    let bit-of = c .before .before .before .before .bit-of in
+    let if2 = c .before .before .before .if2 in
+    let nat-of-arg = c .before .before .nat-of-arg in
+    let nat-of = c .before .nat-of in
     let s = c .before .before .before .before .before .before .before .before .before .before in
-    let e = c .before .before .before .before .before .before .before .same-word .ensures ∙ ap₂ sameValue (back _ (c .before .before .before .before .before .before .before .before .before .v .given)) (back _ (c .before .before .before .before .before .before .before .before .u .given)) in
-    let f = c .before .before .before .before .bit-of .ensures ∙ ap (bit (s .args .c)) (c .before .before .before .before .before .nat-at .ensures) in
-    let g = c .bit-of2 .ensures ∙ ap (bit (s .args .d)) (c .before .nat-of .ensures ∙ ap natOf (back _ (c .before .before .nat-of-arg .given))) in
-    ap not g ∙ cell-rest _ _ _ _ _ _ (s .pre .1 .0) (sym e ∙ not-false _ (c .before .before .before .before .before .before .if1 .left)) (sym f ∙ c .before .before .before .if2 .left)
+    let e = same-word .ensures ∙ ap₂ sameValue (back _ (v .given)) (back _ (u .given)) in
+    let f = bit-of .ensures ∙ ap (bit (s .args .c)) (nat-at .ensures) in
+    let g = c .bit-of2 .ensures ∙ ap (bit (s .args .d)) (nat-of .ensures ∙ ap natOf (back _ (nat-of-arg .given))) in
+    ap not g ∙ cell-rest _ _ _ _ _ _ (s .pre .1 .0) (sym e ∙ not-false _ (if1 .left)) (sym f ∙ if2 .left)
 
 pub same-cell-spec : {M : Type 1} → statement M
 same-cell-spec =

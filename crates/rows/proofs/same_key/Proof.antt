@@ -34,8 +34,10 @@ element-copy-out-d c = search needs
 
 same-cell-requires : tie.Need-same-cell-requires Inv-loop μ-loop
 same-cell-requires c κs =
+    let loop = c .before .before .before .loop in
+    let loop-test = c .before .before .loop-test in
     let s = c .before .before .before .before in
-    (s .pre .0, (s .pre .1 .0 .within (c .before .before .before .loop .i) (c .before .before .loop-test .taken), s .pre .1 .1 .within (c .before .before .before .loop .i) (c .before .before .loop-test .taken)))
+    (s .pre .0, (s .pre .1 .0 .within (loop .i) (loop-test .taken), s .pre .1 .1 .within (loop .i) (loop-test .taken)))
 
 returns : tie.Need-returns Inv-loop μ-loop
 returns c =

@@ -34,13 +34,16 @@ add-result c =
 
 returns : tie.Need-returns
 returns c =
+    let rows-before = c .before .before .before .rows-before in
+    let count-with-key = c .before .before .count-with-key in
+    let rows-after = c .before .rows-after in
     let s = c .before .before .before .before in
     let a = s .args in
     let P = withKey (take (a .n) (a .cs .now)) (take (a .n) (a .ds .now)) (a .image .now) in
-    let before = c .before .before .count-with-key .ensures in
+    let before = count-with-key .ensures in
     let after = c .count-with-key2 .ensures in
-    let all = count-parts (a .area .now) (a .table) (a .r) (s .pre .0 .1) P (c .before .before .before .rows-before .ensures) (c .before .rows-after .ensures) in
-    (ap₂ (λ m n. m + n) (before .0) (after .0) ∙ all, parts-few (a .table) (a .r) (s .pre .0 .1) (c .before .before .before .rows-before .ensures) (c .before .rows-after .ensures) (before .1) (after .1))
+    let all = count-parts (a .area .now) (a .table) (a .r) (s .pre .0 .1) P (rows-before .ensures) (rows-after .ensures) in
+    (ap₂ (λ m n. m + n) (before .0) (after .0) ∙ all, parts-few (a .table) (a .r) (s .pre .0 .1) (rows-before .ensures) (rows-after .ensures) (before .1) (after .1))
 
 pub count-others-with-key-spec : {M : Type 1} → statement M
 count-others-with-key-spec =

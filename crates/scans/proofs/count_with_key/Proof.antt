@@ -32,10 +32,11 @@ skip-rows-requires c κs =
 
 loop-holds : tie.Need-loop-holds Inv-loop μ-loop
 loop-holds c =
+    let sought-of = c .before .sought-of in
     let s = c .before .before in
     let a = s .args .area .now in
     let t = s .args .table in
-    (c .skip-rows .ensures .high, (omega arith, zero-add _ ∙ sym (count-skipped a t (s .args .n) (s .args .cs .now) (s .args .ds .now) (s .args .image .now) (s .pre .1 .0) (s .pre .1 .1 .0) (s .pre .1 .1 .1) (c .before .sought-of .ensures) (c .skip-rows .ensures))))
+    (c .skip-rows .ensures .high, (omega arith, zero-add _ ∙ sym (count-skipped a t (s .args .n) (s .args .cs .now) (s .args .ds .now) (s .args .image .now) (s .pre .1 .0) (s .pre .1 .1 .0) (s .pre .1 .1 .1) (sought-of .ensures) (c .skip-rows .ensures))))
 
 mul-key-number : tie.Need-mul-key-number Inv-loop μ-loop
 mul-key-number c =
@@ -68,23 +69,28 @@ add-skip-rows c = omega (arith, c .before .before .before .before .before .pre .
 
 skip-rows-requires-2 : tie.Need-skip-rows-requires-2 Inv-loop μ-loop
 skip-rows-requires-2 c κs =
+    let sought-of = c .before .before .before .before .sought-of in
+    let loop-test = c .before .loop-test in
     let s = c .before .before .before .before .before in
-    (s .pre .0, (omega (arith, c .before .loop-test .taken), sought-within (s .args .n) (s .args .cs .now) (s .args .ds .now) (s .args .image .now) (s .pre .1 .0) (s .pre .1 .1 .0) (c .before .before .before .before .sought-of .ensures)))
+    (s .pre .0, (omega (arith, loop-test .taken), sought-within (s .args .n) (s .args .cs .now) (s .args .ds .now) (s .args .image .now) (s .pre .1 .0) (s .pre .1 .1 .0) (sought-of .ensures)))
 
 loop-less : tie.Need-loop-less Inv-loop μ-loop
 loop-less c = omega (arith, c .skip-rows2 .ensures .low, c .before .before .loop-test .taken)
 
 loop-again : tie.Need-loop-again Inv-loop μ-loop
 loop-again c =
+    let sought-of = c .before .before .before .before .before .sought-of in
+    let l = c .before .before .before .loop in
+    let loop-test = c .before .before .loop-test in
+    let key-number = c .before .key-number in
     let s = c .before .before .before .before .before .before in
     let a = s .args .area .now in
     let t = s .args .table in
     let P = withKey (take (s .args .n) (s .args .cs .now)) (take (s .args .n) (s .args .ds .now)) (s .args .image .now) in
-    let l = c .before .before .before .loop in
-    let e = row-get a t (l .j) (c .before .before .loop-test .taken) in
-    let more = count-more P (rowsIn a t) (l .j) (omega (arith, rows-many a t, c .before .before .loop-test .taken)) [] _ e in
-    let past = count-skipped a t (s .args .n) (s .args .cs .now) (s .args .ds .now) (s .args .image .now) (s .pre .1 .0) (s .pre .1 .1 .0) (s .pre .1 .1 .1) (c .before .before .before .before .before .sought-of .ensures) (c .skip-rows2 .ensures) in
-    let one = c .before .key-number .ensures in
+    let e = row-get a t (l .j) (loop-test .taken) in
+    let more = count-more P (rowsIn a t) (l .j) (omega (arith, rows-many a t, loop-test .taken)) [] _ e in
+    let past = count-skipped a t (s .args .n) (s .args .cs .now) (s .args .ds .now) (s .args .image .now) (s .pre .1 .0) (s .pre .1 .1 .0) (s .pre .1 .1 .1) (sought-of .ensures) (c .skip-rows2 .ensures) in
+    let one = key-number .ensures in
     (c .skip-rows2 .ensures .high, (omega (arith, l .inv .1 .0, one .1, c .skip-rows2 .ensures .low), omega (arith, l .inv .1 .1, more, past, one .0)))
 
 returns : tie.Need-returns Inv-loop μ-loop

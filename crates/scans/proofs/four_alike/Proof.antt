@@ -26,8 +26,11 @@ is-alike-requires-2 c κs = search needs
 
 returns-2 : tie.Need-returns-2
 returns-2 c =
+    let is-alike = c .before .before .before .is-alike in
+    let if1 = c .before .before .if1 in
+    let is-alike2 = c .before .is-alike2 in
     let a = c .before .before .before .before .args in
-    four-second (a .area .now) (a .start) (a .w) (a .sought) (a .j) (sym (c .before .before .before .is-alike .ensures) ∙ c .before .before .if1 .left) (sym (c .before .is-alike2 .ensures) ∙ c .if2 .taken)
+    four-second (a .area .now) (a .start) (a .w) (a .sought) (a .j) (sym (is-alike .ensures) ∙ if1 .left) (sym (is-alike2 .ensures) ∙ c .if2 .taken)
 
 add-is-alike-2 : tie.Need-add-is-alike-2
 add-is-alike-2 c = search needs
@@ -40,8 +43,13 @@ is-alike-requires-3 c κs = search needs
 
 returns-3 : tie.Need-returns-3
 returns-3 c =
+    let is-alike = c .before .before .before .before .before .is-alike in
+    let if1 = c .before .before .before .before .if1 in
+    let is-alike2 = c .before .before .before .is-alike2 in
+    let if2 = c .before .before .if2 in
+    let is-alike3 = c .before .is-alike3 in
     let a = c .before .before .before .before .before .before .args in
-    four-third (a .area .now) (a .start) (a .w) (a .sought) (a .j) (sym (c .before .before .before .before .before .is-alike .ensures) ∙ c .before .before .before .before .if1 .left) (sym (c .before .before .before .is-alike2 .ensures) ∙ c .before .before .if2 .left) (sym (c .before .is-alike3 .ensures) ∙ c .if3 .taken)
+    four-third (a .area .now) (a .start) (a .w) (a .sought) (a .j) (sym (is-alike .ensures) ∙ if1 .left) (sym (is-alike2 .ensures) ∙ if2 .left) (sym (is-alike3 .ensures) ∙ c .if3 .taken)
 
 add-is-alike-4 : tie.Need-add-is-alike-4
 add-is-alike-4 c = search needs
@@ -57,8 +65,14 @@ is-alike-requires-4 c κs = search needs
 
 returns-4 : tie.Need-returns-4
 returns-4 c =
+    let is-alike = c .before .before .before .before .before .before .is-alike in
+    let if1 = c .before .before .before .before .before .if1 in
+    let is-alike2 = c .before .before .before .before .is-alike2 in
+    let if2 = c .before .before .before .if2 in
+    let is-alike3 = c .before .before .is-alike3 in
+    let if3 = c .before .if3 in
     let a = c .before .before .before .before .before .before .before .args in
-    c .is-alike4 .ensures ∙ four-last (a .area .now) (a .start) (a .w) (a .sought) (a .j) (sym (c .before .before .before .before .before .before .is-alike .ensures) ∙ c .before .before .before .before .before .if1 .left) (sym (c .before .before .before .before .is-alike2 .ensures) ∙ c .before .before .before .if2 .left) (sym (c .before .before .is-alike3 .ensures) ∙ c .before .if3 .left)
+    c .is-alike4 .ensures ∙ four-last (a .area .now) (a .start) (a .w) (a .sought) (a .j) (sym (is-alike .ensures) ∙ if1 .left) (sym (is-alike2 .ensures) ∙ if2 .left) (sym (is-alike3 .ensures) ∙ if3 .left)
 
 pub four-alike-spec : {M : Type 1} → statement M
 four-alike-spec =

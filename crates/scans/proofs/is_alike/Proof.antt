@@ -44,13 +44,17 @@ same-word-requires-2 c κs = search needs
 
 returns-2 : tie.Need-returns-2
 returns-2 c =
+    let same-word-arg = c .before .before .before .before .before .before .before .same-word-arg in
+    let same-word = c .before .before .before .before .before .same-word in
+    let if1 = c .before .before .before .before .if1 in
+    let same-word-arg2 = c .before .before .same-word-arg2 in
     let s = c .before .before .before .before .before .before .before .before .before in
     let a = s .args in
     let v : SFits w64 (a .sought .v) = search needs in
-    let one = c .before .before .before .before .before .same-word .ensures ∙ ap₂ sameValue (back _ (c .before .before .before .before .before .before .before .same-word-arg .given)) (toZ-ofZ w64 (a .sought .v) v) in
+    let one = same-word .ensures ∙ ap₂ sameValue (back _ (same-word-arg .given)) (toZ-ofZ w64 (a .sought .v) v) in
     let u : SFits w64 (a .sought .u) = search needs in
-    let two = c .same-word2 .ensures ∙ ap₂ sameValue (back _ (c .before .before .same-word-arg2 .given)) (toZ-ofZ w64 (a .sought .u) u) in
-    second-decides (a .area .now) (a .p) (a .w) (a .sought) (s .pre .1 .0) (s .pre .1 .1) one (not-false _ (c .before .before .before .before .if1 .left)) two
+    let two = c .same-word2 .ensures ∙ ap₂ sameValue (back _ (same-word-arg2 .given)) (toZ-ofZ w64 (a .sought .u) u) in
+    second-decides (a .area .now) (a .p) (a .w) (a .sought) (s .pre .1 .0) (s .pre .1 .1) one (not-false _ (if1 .left)) two
 
 pub is-alike-spec : {M : Type 1} → statement M
 is-alike-spec =

@@ -42,7 +42,10 @@ all-keys-requires c κs = omega (arith, header-here (c .before .before .before))
 
 -- src/lib.rt:395:1
 returns-2 : tie.Need-returns-2
-returns-2 c = cc (well-rest (c .before .before .before .before .before .before .before .args .s .now) (sym (c .before .before .before .before .before .header-rules .ensures) ∙ not-false _ (c .before .before .before .before .if1 .left)))
+returns-2 c =
+    let header-rules = c .before .before .before .before .before .header-rules in
+    let if1 = c .before .before .before .before .if1 in
+    cc (well-rest (c .before .before .before .before .before .before .before .args .s .now) (sym (header-rules .ensures) ∙ not-false _ (if1 .left)))
 
 pub is-well-formed-spec : {M : Type 1} → statement M
 is-well-formed-spec =

@@ -104,7 +104,10 @@ is-byte-requires-2 c κs = search needs
 -- src/lib.rt:362:1
 returns-2 : tie.Need-returns-2
 unfolding Check.keyRest every andAll
-returns-2 c = cc (key-rest (c .before .before .before .before .before .before .before .before .before .before .before .before .args .s .now) (c .before .before .before .before .before .before .before .before .before .before .before .before .args .k) (sym (c .before .before .before .before .before .before .before .before .before .before .code-rules .ensures) ∙ not-false _ (c .before .before .before .before .before .before .before .before .before .if1 .left)), child-here (c .before .before .before .before .before .before), width-here (c .before .before .before .before .before .before))
+returns-2 c =
+    let code-rules = c .before .before .before .before .before .before .before .before .before .before .code-rules in
+    let if1 = c .before .before .before .before .before .before .before .before .before .if1 in
+    cc (key-rest (c .before .before .before .before .before .before .before .before .before .before .before .before .args .s .now) (c .before .before .before .before .before .before .before .before .before .before .before .before .args .k) (sym (code-rules .ensures) ∙ not-false _ (if1 .left)), child-here (c .before .before .before .before .before .before), width-here (c .before .before .before .before .before .before))
 
 pub key-rules-spec : {M : Type 1} → statement M
 key-rules-spec =

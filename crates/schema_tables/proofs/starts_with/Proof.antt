@@ -35,7 +35,11 @@ is-same-requires c κs = search needs
 
 -- src/lib.rt:116:13
 returns-2 : tie.Need-returns-2 Inv-loop μ-loop
-returns-2 c = starts-is _ _ (omega arith) (c .before .before .before .loop .inv .1 ∙ all-stop _ _ _ (c .before .before .loop-test .taken) (sym (c .before .is-same .ensures) ∙ not-true _ (c .if2 .taken)))
+returns-2 c =
+    let loop = c .before .before .before .loop in
+    let loop-test = c .before .before .loop-test in
+    let is-same = c .before .is-same in
+    starts-is _ _ (omega arith) (loop .inv .1 ∙ all-stop _ _ _ (loop-test .taken) (sym (is-same .ensures) ∙ not-true _ (c .if2 .taken)))
 
 -- src/lib.rt:118:9
 add-i : tie.Need-add-i Inv-loop μ-loop

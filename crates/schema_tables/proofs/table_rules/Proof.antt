@@ -48,7 +48,10 @@ add-mask-rules c = search needs
 
 -- src/lib.rt:245:5
 mask-rules-requires : tie.Need-mask-rules-requires
-mask-rules-requires c κs = let h : Fields.columnsOf (c .before .before .before .before .args .s .now) (c .before .before .before .before .args .t) ≤ 8 = sizes _ _ (sym (c .before .before .size-rules .ensures) ∙ not-false _ (c .before .if1 .left)) .columns .high in search needs
+mask-rules-requires c κs =
+    let size-rules = c .before .before .size-rules in
+    let if1 = c .before .if1 in
+    let h : Fields.columnsOf (c .before .before .before .before .args .s .now) (c .before .before .before .before .args .t) ≤ 8 = sizes _ _ (sym (size-rules .ensures) ∙ not-false _ (if1 .left)) .columns .high in search needs
 
 -- src/lib.rt:246:11
 unique-rule-requires : tie.Need-unique-rule-requires
@@ -77,7 +80,10 @@ default-rules-requires c κs = search needs
 -- src/lib.rt:236:1
 returns-2 : tie.Need-returns-2
 unfolding Check.tableRest every andAll
-returns-2 c = cc (table-rest (c .before .before .before .before .before .before .before .before .before .before .args .s .now) (c .before .before .before .before .before .before .before .before .before .before .args .t) (sym (c .before .before .before .before .before .before .before .before .size-rules .ensures) ∙ not-false _ (c .before .before .before .before .before .before .before .if1 .left)))
+returns-2 c =
+    let size-rules = c .before .before .before .before .before .before .before .before .size-rules in
+    let if1 = c .before .before .before .before .before .before .before .if1 in
+    cc (table-rest (c .before .before .before .before .before .before .before .before .before .before .args .s .now) (c .before .before .before .before .before .before .before .before .before .before .args .t) (sym (size-rules .ensures) ∙ not-false _ (if1 .left)))
 
 pub table-rules-spec : {M : Type 1} → statement M
 table-rules-spec =

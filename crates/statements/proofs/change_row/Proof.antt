@@ -21,32 +21,43 @@ enum-known-c c = search needs
 
 put-back-requires : tie.Need-put-back-requires
 put-back-requires c κs =
+    let nat-at = c .before .before .before .before .before .before .before .before .nat-at in
+    let row-change = c .before .before .before .before .before .row-change in
     let s = c .before .before .before .before .before .before .before .before .before .before .before in
-    ends.changed-undoable (s .args .schema .now) (s .pre .0) (change 16 (schemaOf (s .args .schema .now)) (s .args .t) (s .args .r) (s .args .image)) (ends.change-fine (s .args .schema .now) (s .pre .0) (s .args .t) (s .args .r) (s .args .image) (s .pre .1 .1)) (c .before .before .before .before .before .row-change .result) (c .before .before .before .before .before .row-change .ensures) (c .before .before .before .before .before .before .before .before .nat-at .ensures)
+    ends.changed-undoable (s .args .schema .now) (s .pre .0) (change 16 (schemaOf (s .args .schema .now)) (s .args .t) (s .args .r) (s .args .image)) (ends.change-fine (s .args .schema .now) (s .pre .0) (s .args .t) (s .args .r) (s .args .image) (s .pre .1 .1)) (row-change .result) (row-change .ensures) (nat-at .ensures)
 
 enum-told : tie.Need-enum-told
 enum-told c = search needs
 
 conclude-requires : tie.Need-conclude-requires
 conclude-requires c κs =
+    let nat-at = c .before .before .before .before .before .before .before .nat-at in
+    let row-change = c .before .before .before .before .row-change in
     let s = c .before .before .before .before .before .before .before .before .before .before in
-    ends.changed-ending (s .args .schema .now) (s .pre .0) (change 16 (schemaOf (s .args .schema .now)) (s .args .t) (s .args .r) (s .args .image)) (ends.change-fine (s .args .schema .now) (s .pre .0) (s .args .t) (s .args .r) (s .args .image) (s .pre .1 .1)) (c .before .before .before .before .row-change .result) (c .before .before .before .before .row-change .ensures) (c .before .before .before .before .before .before .before .nat-at .ensures)
+    ends.changed-ending (s .args .schema .now) (s .pre .0) (change 16 (schemaOf (s .args .schema .now)) (s .args .t) (s .args .r) (s .args .image)) (ends.change-fine (s .args .schema .now) (s .pre .0) (s .args .t) (s .args .r) (s .args .image) (s .pre .1 .1)) (row-change .result) (row-change .ensures) (nat-at .ensures)
 
 same-length : tie.Need-same-length
 same-length c = search needs
 
 returns : tie.Need-returns
 returns c =
+    let nat-at = c .before .before .before .before .before .before .before .before .before .before .nat-at in
+    let row-change = c .before .before .before .before .before .before .before .row-change in
+    let put-back = c .before .put-back in
     let s = c .before .before .before .before .before .before .before .before .before .before .before .before .before in
-    ends.change-refused (s .args .schema .now) (s .pre .0) (change 16 (schemaOf (s .args .schema .now)) (s .args .t) (s .args .r) (s .args .image)) (ends.change-fine (s .args .schema .now) (s .pre .0) (s .args .t) (s .args .r) (s .args .image) (s .pre .1 .1)) (c .before .before .before .before .before .before .before .row-change .result) (c .before .before .before .before .before .before .before .row-change .ensures) (c .before .before .before .before .before .before .before .before .before .before .nat-at .ensures) _ (c .before .before .before .before .c .given .1) (c .before .put-back .ensures)
+    ends.change-refused (s .args .schema .now) (s .pre .0) (change 16 (schemaOf (s .args .schema .now)) (s .args .t) (s .args .r) (s .args .image)) (ends.change-fine (s .args .schema .now) (s .pre .0) (s .args .t) (s .args .r) (s .args .image) (s .pre .1 .1)) (row-change .result) (row-change .ensures) (nat-at .ensures) _ (c .before .before .before .before .c .given .1) (put-back .ensures)
 
 same-length-2 : tie.Need-same-length-2
 same-length-2 c = search needs
 
 returns-2 : tie.Need-returns-2
 returns-2 c =
+    let nat-at = c .before .before .before .before .before .before .before .before .before .nat-at in
+    let row-change = c .before .before .before .before .before .before .row-change in
+    let enum-told = c .before .before .before .enum-told in
+    let conclude = c .before .conclude in
     let s = c .before .before .before .before .before .before .before .before .before .before .before .before in
-    ends.change-ended (s .args .schema .now) (s .pre .0) (change 16 (schemaOf (s .args .schema .now)) (s .args .t) (s .args .r) (s .args .image)) (ends.change-fine (s .args .schema .now) (s .pre .0) (s .args .t) (s .args .r) (s .args .image) (s .pre .1 .1)) (c .before .before .before .before .before .before .row-change .result) (c .before .before .before .before .before .before .row-change .ensures) (c .before .before .before .before .before .before .before .before .before .nat-at .ensures) (c .before .before .before .enum-told .given .1) _ _ (c .before .conclude .ensures)
+    ends.change-ended (s .args .schema .now) (s .pre .0) (change 16 (schemaOf (s .args .schema .now)) (s .args .t) (s .args .r) (s .args .image)) (ends.change-fine (s .args .schema .now) (s .pre .0) (s .args .t) (s .args .r) (s .args .image) (s .pre .1 .1)) (row-change .result) (row-change .ensures) (nat-at .ensures) (enum-told .given .1) _ _ (conclude .ensures)
 
 pub change-row-spec : {M : Type 1} → statement M
 change-row-spec =

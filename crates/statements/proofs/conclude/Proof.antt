@@ -30,9 +30,10 @@ enum-known-c c = search needs
 
 put-back-requires : tie.Need-put-back-requires
 put-back-requires c κs =
+    let settle = c .before .before .before .before .before .settle in
     let s = c .before .before .before .before .before .before .before .before .before .before in
     let sc : Schema = schemaOf (s .args .schema .now) in
-    ends.undoable-same (s .pre) (ends.failed-same sc (plus ((view sc (s .args .area .now)) .kept) (s .args .tally)) (s .args .area .now) (c .before .before .before .before .before .settle .last .1 .0) (c .before .before .c .given .1) (c .before .before .before .before .before .settle .ensures .1))
+    ends.undoable-same (s .pre) (ends.failed-same sc (plus ((view sc (s .args .area .now)) .kept) (s .args .tally)) (s .args .area .now) (settle .last .1 .0) (c .before .before .c .given .1) (settle .ensures .1))
 
 enum-told : tie.Need-enum-told
 enum-told c = search needs
@@ -45,18 +46,23 @@ same-length c = search needs
 
 returns : tie.Need-returns
 returns c =
+    let settle = c .before .before .before .before .before .before .before .settle in
+    let put-back = c .before .put-back in
     let s = c .before .before .before .before .before .before .before .before .before .before .before .before in
     let sc : Schema = schemaOf (s .args .schema .now) in
-    ends.ended-fail sc (s .args .used) (s .args .tally) (s .args .area .now) _ _ _ (sym (c .before .before .before .before .c .given .1) ∙ c .before .before .before .before .before .before .before .settle .ensures .0) (ends.failed-same sc (plus ((view sc (s .args .area .now)) .kept) (s .args .tally)) (s .args .area .now) (c .before .before .before .before .before .before .before .settle .last .1 .0) (c .before .before .before .before .c .given .1) (c .before .before .before .before .before .before .before .settle .ensures .1)) (c .before .put-back .ensures)
+    ends.ended-fail sc (s .args .used) (s .args .tally) (s .args .area .now) _ _ _ (sym (c .before .before .before .before .c .given .1) ∙ settle .ensures .0) (ends.failed-same sc (plus ((view sc (s .args .area .now)) .kept) (s .args .tally)) (s .args .area .now) (settle .last .1 .0) (c .before .before .before .before .c .given .1) (settle .ensures .1)) (put-back .ensures)
 
 same-length-2 : tie.Need-same-length-2
 same-length-2 c = search needs
 
 returns-2 : tie.Need-returns-2
 returns-2 c =
+    let nat-at = c .before .before .before .before .before .before .nat-at in
+    let settle = c .before .before .before .before .settle in
+    let enum-told = c .before .enum-told in
     let s = c .before .before .before .before .before .before .before .before .before in
     let sc : Schema = schemaOf (s .args .schema .now) in
-    ends.ended-pass sc (s .args .used) (s .args .tally) (s .args .area .now) _ _ _ (sym (c .before .enum-told .given .1) ∙ c .before .before .before .before .settle .ensures .0) (ap (λ (n : ℕ). n - s .args .used) (c .before .before .before .before .before .before .nat-at .ensures ∙ sym (use-is (s .pre .settling .ready .fit)))) (back _ (c .sum-of .ok) ∙ c .sum-of .ensures) (ends.passed-holds sc (plus ((view sc (s .args .area .now)) .kept) (s .args .tally)) (s .args .area .now) (c .before .before .before .before .settle .last .1 .0) (c .before .enum-told .given .1) (c .before .before .before .before .settle .ensures .1))
+    ends.ended-pass sc (s .args .used) (s .args .tally) (s .args .area .now) _ _ _ (sym (enum-told .given .1) ∙ settle .ensures .0) (ap (λ (n : ℕ). n - s .args .used) (nat-at .ensures ∙ sym (use-is (s .pre .settling .ready .fit)))) (back _ (c .sum-of .ok) ∙ c .sum-of .ensures) (ends.passed-holds sc (plus ((view sc (s .args .area .now)) .kept) (s .args .tally)) (s .args .area .now) (settle .last .1 .0) (enum-told .given .1) (settle .ensures .1))
 
 pub conclude-spec : {M : Type 1} → statement M
 conclude-spec =

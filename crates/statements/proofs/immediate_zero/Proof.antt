@@ -42,16 +42,21 @@ same-word-requires c κs = search needs
 
 returns : tie.Need-returns Inv-loop μ-loop
 returns c =
+    let loop = c .before .before .before .before .before .loop in
+    let loop-test = c .before .before .before .before .loop-test in
+    let v = c .before .before .before .v in
+    let is-deferred = c .before .before .is-deferred in
+    let same-word = c .before .same-word in
     let s = c .before .before .before .before .before .before .before .before in
     let sc : Schema = schemaOf (s .args .schema .now) in
     let ks : List ForeignKey = sc .keys in
     let xs : List ℤ = s .args .t2 in
-    let k : ℕ = c .before .before .before .before .before .loop .k in
-    let h : k < length ks = omega (arith, c .before .before .before .before .before .loop .inv .1 .0, c .before .before .before .before .loop-test .taken) in
+    let k : ℕ = loop .k in
+    let h : k < length ks = omega (arith, loop .inv .1 .0, loop-test .taken) in
     let l : k < length xs = search needs in
     let e : (keyOf sc k .deferred || sameValue (pos 0) (getD xs k (pos 0))) ≡ false
-    = ap₂ (λ a b. a || b) (sym (c .before .before .is-deferred .ensures)) (ap (sameValue (pos 0)) (sym (back (getD xs k (pos 0)) (c .before .before .before .v .given))) ∙ sym (c .before .same-word .ensures)) ∙ not-true _ (c .if1 .taken) in
-    sym (c .before .before .before .before .before .loop .inv .1 .1 .1 ∙ law.immediate-miss ks xs k h l e)
+    = ap₂ (λ a b. a || b) (sym (is-deferred .ensures)) (ap (sameValue (pos 0)) (sym (back (getD xs k (pos 0)) (v .given))) ∙ sym (same-word .ensures)) ∙ not-true _ (c .if1 .taken) in
+    sym (loop .inv .1 .1 .1 ∙ law.immediate-miss ks xs k h l e)
 
 add-k : tie.Need-add-k Inv-loop μ-loop
 add-k c = search needs
@@ -61,16 +66,21 @@ loop-less c = search needs
 
 loop-again : tie.Need-loop-again Inv-loop μ-loop
 loop-again c =
+    let loop = c .before .before .before .before .before .loop in
+    let loop-test = c .before .before .before .before .loop-test in
+    let v = c .before .before .before .v in
+    let is-deferred = c .before .before .is-deferred in
+    let same-word = c .before .same-word in
     let s = c .before .before .before .before .before .before .before .before in
     let sc : Schema = schemaOf (s .args .schema .now) in
     let ks : List ForeignKey = sc .keys in
     let xs : List ℤ = s .args .t2 in
-    let k : ℕ = c .before .before .before .before .before .loop .k in
-    let h : k < length ks = omega (arith, c .before .before .before .before .before .loop .inv .1 .0, c .before .before .before .before .loop-test .taken) in
+    let k : ℕ = loop .k in
+    let h : k < length ks = omega (arith, loop .inv .1 .0, loop-test .taken) in
     let l : k < length xs = search needs in
     let e : (keyOf sc k .deferred || sameValue (pos 0) (getD xs k (pos 0))) ≡ true
-    = ap₂ (λ a b. a || b) (sym (c .before .before .is-deferred .ensures)) (ap (sameValue (pos 0)) (sym (back (getD xs k (pos 0)) (c .before .before .before .v .given))) ∙ sym (c .before .same-word .ensures)) ∙ not-false _ (c .if1 .left) in
-    (search needs, (c .before .before .before .before .before .loop .inv .1 .0, (c .before .before .before .before .before .loop .inv .1 .1 .0, c .before .before .before .before .before .loop .inv .1 .1 .1 ∙ law.immediate-more ks xs k h l e)))
+    = ap₂ (λ a b. a || b) (sym (is-deferred .ensures)) (ap (sameValue (pos 0)) (sym (back (getD xs k (pos 0)) (v .given))) ∙ sym (same-word .ensures)) ∙ not-false _ (c .if1 .left) in
+    (search needs, (loop .inv .1 .0, (loop .inv .1 .1 .0, loop .inv .1 .1 .1 ∙ law.immediate-more ks xs k h l e)))
 
 returns-2 : tie.Need-returns-2 Inv-loop μ-loop
 returns-2 c =

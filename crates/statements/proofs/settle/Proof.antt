@@ -32,8 +32,11 @@ same-length c = search needs
 
 returns : tie.Need-returns
 returns c =
+    let numbers-at = c .before .before .before .before .before .numbers-at in
+    let plus-of = c .before .before .before .before .plus-of in
+    let kept-in-range = c .before .kept-in-range in
     let s = c .before .before .before .before .before .before .before .before in
-    ends.settle-19 (s .pre .ready .fit) (s .args .tally) (c .before .before .before .before .before .numbers-at .ensures) (c .before .before .before .before .plus-of .ensures) (search needs) (c .before .kept-in-range .ensures) (not-true _ (c .if1 .taken))
+    ends.settle-19 (s .pre .ready .fit) (s .args .tally) (numbers-at .ensures) (plus-of .ensures) (search needs) (kept-in-range .ensures) (not-true _ (c .if1 .taken))
 
 nat-at-requires : tie.Need-nat-at-requires
 nat-at-requires c κs = omega (arith, area-long (c .before .before .before .before .before .before .before .before .before .pre .ready .fit))
@@ -46,8 +49,14 @@ same-length-2 c = search needs
 
 returns-2 : tie.Need-returns-2
 returns-2 c =
+    let numbers-at = c .before .before .before .before .before .before .before .before .before .numbers-at in
+    let plus-of = c .before .before .before .before .before .before .before .before .plus-of in
+    let kept-in-range = c .before .before .before .before .before .kept-in-range in
+    let if1 = c .before .before .before .before .if1 in
+    let nat-at = c .before .before .nat-at in
+    let is-enforced = c .before .is-enforced in
     let s = c .before .before .before .before .before .before .before .before .before .before .before .before in
-    ends.settle-20 (s .pre .ready .fit) (s .args .tally) (c .before .before .before .before .before .before .before .before .before .numbers-at .ensures) (c .before .before .before .before .before .before .before .before .plus-of .ensures) (search needs) (c .before .before .before .before .before .kept-in-range .ensures) (c .before .before .nat-at .ensures) (not-false _ (c .before .before .before .before .if1 .left)) (c .before .is-enforced .ensures) (not-true _ (c .if2 .taken))
+    ends.settle-20 (s .pre .ready .fit) (s .args .tally) (numbers-at .ensures) (plus-of .ensures) (search needs) (kept-in-range .ensures) (nat-at .ensures) (not-false _ (if1 .left)) (is-enforced .ensures) (not-true _ (c .if2 .taken))
 
 write-kept-requires : tie.Need-write-kept-requires
 write-kept-requires c κs = search needs
@@ -57,8 +66,16 @@ same-length-3 c = search needs
 
 returns-3 : tie.Need-returns-3
 returns-3 c =
+    let numbers-at = c .before .before .before .before .before .before .before .before .before .before .before .before .numbers-at in
+    let plus-of = c .before .before .before .before .before .before .before .before .before .before .before .plus-of in
+    let kept-in-range = c .before .before .before .before .before .before .before .before .kept-in-range in
+    let if1 = c .before .before .before .before .before .before .before .if1 in
+    let nat-at = c .before .before .before .before .before .nat-at in
+    let is-enforced = c .before .before .before .before .is-enforced in
+    let if2 = c .before .before .before .if2 in
+    let write-kept = c .before .write-kept in
     let s = c .before .before .before .before .before .before .before .before .before .before .before .before .before .before .before in
-    ends.settle-pass (s .pre .ready .fit) (s .args .tally) (c .before .before .before .before .before .before .before .before .before .before .before .before .numbers-at .ensures) (c .before .before .before .before .before .before .before .before .before .before .before .plus-of .ensures) (search needs) (c .before .before .before .before .before .before .before .before .kept-in-range .ensures) (c .before .before .before .before .before .nat-at .ensures) (not-false _ (c .before .before .before .before .before .before .before .if1 .left)) (c .before .before .before .before .is-enforced .ensures) (not-false _ (c .before .before .before .if2 .left)) (c .before .write-kept .ensures)
+    ends.settle-pass (s .pre .ready .fit) (s .args .tally) (numbers-at .ensures) (plus-of .ensures) (search needs) (kept-in-range .ensures) (nat-at .ensures) (not-false _ (if1 .left)) (is-enforced .ensures) (not-false _ (if2 .left)) (write-kept .ensures)
 
 pub settle-spec : {M : Type 1} → statement M
 settle-spec =

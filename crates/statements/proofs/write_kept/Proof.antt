@@ -29,8 +29,12 @@ same-length-2 c = search needs
 
 returns-2 : tie.Need-returns-2
 returns-2 c =
+    let put-numbers = c .before .before .before .before .before .before .before .put-numbers in
+    let nat-at = c .before .before .before .before .nat-at in
+    let if1 = c .before .before .before .if1 in
+    let empty-journal = c .before .empty-journal in
     let s = c .before .before .before .before .before .before .before .before .before .before in
-    ends.written-outside (s .pre .fit) (s .args .kept) (search needs) (c .before .before .before .before .before .before .before .put-numbers .ensures) (c .before .before .before .before .nat-at .ensures) (c .before .before .before .if1 .left) (c .before .empty-journal .ensures)
+    ends.written-outside (s .pre .fit) (s .args .kept) (search needs) (put-numbers .ensures) (nat-at .ensures) (if1 .left) (empty-journal .ensures)
 
 pub write-kept-spec : {M : Type 1} → statement M
 write-kept-spec =

@@ -30,7 +30,9 @@ array-copy-out-v : tie.Need-array-copy-out-v Inv-loop μ-loop
 array-copy-out-v c = search needs
 
 add-requires : tie.Need-add-requires Inv-loop μ-loop
-add-requires c κs = (omega (arith, c .before .before .loop .inv .1 .0), rw (back (getD (c .before .before .before .args .t1) (c .before .before .loop .k) (pos 0)) (c .v .given)) (omega (arith, c .before .before .before .pre .small (c .before .before .loop .k))))
+add-requires c κs =
+    let loop = c .before .before .loop in
+    (omega (arith, loop .inv .1 .0), rw (back (getD (c .before .before .before .args .t1) (loop .k) (pos 0)) (c .v .given)) (omega (arith, c .before .before .before .pre .small (loop .k))))
 
 add-k : tie.Need-add-k Inv-loop μ-loop
 add-k c = search needs
@@ -40,12 +42,14 @@ loop-less c = search needs
 
 loop-again : tie.Need-loop-again Inv-loop μ-loop
 loop-again c =
+    let loop = c .before .before .before .loop in
+    let v = c .before .v in
     let t : List ℤ = c .before .before .before .before .args .t1 in
-    let k : ℕ = c .before .before .before .loop .k in
-    let s : ℤ = toZ w64 (c .before .before .before .loop .s) in
+    let k : ℕ = loop .k in
+    let s : ℤ = toZ w64 (loop .s) in
     let lt : k < length t = search needs in
-    let e : toZ w64 (ofZ w64 (c .add .result)) ≡ s +ℤ getD t k (pos 0) = back _ (c .add .ok) ∙ c .add .ensures ∙ ap (λ (z : ℤ). s +ℤ z) (back (getD t k (pos 0)) (c .before .v .given)) in
-    (search needs, (rw e (omega (arith, abs-add s (getD t k (pos 0)), c .before .before .before .before .pre .small k, c .before .before .before .loop .inv .1 .0)), rw e (sum-more t k s lt ∙ c .before .before .before .loop .inv .1 .1)))
+    let e : toZ w64 (ofZ w64 (c .add .result)) ≡ s +ℤ getD t k (pos 0) = back _ (c .add .ok) ∙ c .add .ensures ∙ ap (λ (z : ℤ). s +ℤ z) (back (getD t k (pos 0)) (v .given)) in
+    (search needs, (rw e (omega (arith, abs-add s (getD t k (pos 0)), c .before .before .before .before .pre .small k, loop .inv .1 .0)), rw e (sum-more t k s lt ∙ loop .inv .1 .1)))
 
 returns : tie.Need-returns Inv-loop μ-loop
 returns c =

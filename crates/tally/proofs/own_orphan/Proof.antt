@@ -14,8 +14,9 @@ child-requires c κs = search needs
 
 returns : tie.Need-returns
 returns c =
+    let child = c .before .child in
     let a = c .before .before .before .args in
-    (own-other (keyOf (schemaOf (c .before .before .before .args .schema .now)) (c .before .before .before .args .k)) (a .t) (a .image) (workOf (schemaOf (c .before .before .before .args .schema .now)) (c .before .before .before .args .area .now) .tabs) (λ e. c .if1 .taken (c .before .child .ensures .0 ∙ e)), omega arith)
+    (own-other (keyOf (schemaOf (c .before .before .before .args .schema .now)) (c .before .before .before .args .k)) (a .t) (a .image) (workOf (schemaOf (c .before .before .before .args .schema .now)) (c .before .before .before .args .area .now) .tabs) (λ e. c .if1 .taken (child .ensures .0 ∙ e)), omega arith)
 
 is-orphan-image-requires : tie.Need-is-orphan-image-requires
 is-orphan-image-requires c κs = search needs
@@ -23,16 +24,22 @@ is-orphan-image-requires c κs = search needs
 returns-2 : tie.Need-returns-2
 unfolding one
 returns-2 c =
+    let child = c .before .before .before .child in
+    let if1 = c .before .before .if1 in
+    let is-orphan-image = c .before .is-orphan-image in
     let a = c .before .before .before .before .before .args in
-    let hit = sym (c .before .is-orphan-image .ensures) ∙ c .if2 .taken in
-    (own-is (keyOf (schemaOf (c .before .before .before .before .before .args .schema .now)) (c .before .before .before .before .before .args .k)) (a .t) (a .image) (workOf (schemaOf (c .before .before .before .before .before .args .schema .now)) (c .before .before .before .before .before .args .area .now) .tabs) (sym (c .before .before .before .child .ensures .0) ∙ c .before .before .if1 .left) hit, omega arith)
+    let hit = sym (is-orphan-image .ensures) ∙ c .if2 .taken in
+    (own-is (keyOf (schemaOf (c .before .before .before .before .before .args .schema .now)) (c .before .before .before .before .before .args .k)) (a .t) (a .image) (workOf (schemaOf (c .before .before .before .before .before .args .schema .now)) (c .before .before .before .before .before .args .area .now) .tabs) (sym (child .ensures .0) ∙ if1 .left) hit, omega arith)
 
 returns-3 : tie.Need-returns-3
 unfolding one
 returns-3 c =
+    let child = c .before .before .before .child in
+    let if1 = c .before .before .if1 in
+    let is-orphan-image = c .before .is-orphan-image in
     let a = c .before .before .before .before .before .args in
-    let miss = sym (c .before .is-orphan-image .ensures) ∙ c .if2 .left in
-    (own-is (keyOf (schemaOf (c .before .before .before .before .before .args .schema .now)) (c .before .before .before .before .before .args .k)) (a .t) (a .image) (workOf (schemaOf (c .before .before .before .before .before .args .schema .now)) (c .before .before .before .before .before .args .area .now) .tabs) (sym (c .before .before .before .child .ensures .0) ∙ c .before .before .if1 .left) miss, omega arith)
+    let miss = sym (is-orphan-image .ensures) ∙ c .if2 .left in
+    (own-is (keyOf (schemaOf (c .before .before .before .before .before .args .schema .now)) (c .before .before .before .before .before .args .k)) (a .t) (a .image) (workOf (schemaOf (c .before .before .before .before .before .args .schema .now)) (c .before .before .before .before .before .args .area .now) .tabs) (sym (child .ensures .0) ∙ if1 .left) miss, omega arith)
 
 pub own-orphan-spec : {M : Type 1} → statement M
 own-orphan-spec =

@@ -51,13 +51,17 @@ returns-3 c =
 
 returns-4 : tie.Need-returns-4
 returns-4 c =
+    let fires = c .before .before .before .before .before .fires in
+    let if1 = c .before .before .before .before .if1 in
+    let taken-rows = c .before .before .before .taken-rows in
+    let has-twin = c .before .has-twin in
     let s = c .before .before .before .before .before .before .before in
     let a = s .args in
     let k = keyOf (schemaOf (a .schema .now)) (a .k) in
     let tabs = workOf (schemaOf (a .schema .now)) (a .area .now) .tabs in
     let same = same-columns (a .schema .now) (a .area .now) (a .k) (a .t) (a .r) (a .n) (a .cs) (a .ps) (s .pre .0) (s .pre .1) in
-    let m = c .before .before .before .taken-rows .ensures in
-    (m .0 ∙ all-stranded k same (a .t) (a .r) (a .x) (a .y) tabs (sym (c .before .before .before .before .before .fires .ensures) ∙ not-false _ (c .before .before .before .before .if1 .left)) (sym (c .before .has-twin .ensures) ∙ c .if3 .left), m .1)
+    let m = taken-rows .ensures in
+    (m .0 ∙ all-stranded k same (a .t) (a .r) (a .x) (a .y) tabs (sym (fires .ensures) ∙ not-false _ (if1 .left)) (sym (has-twin .ensures) ∙ c .if3 .left), m .1)
 
 pub stranded-rows-spec : {M : Type 1} → statement M
 stranded-rows-spec =

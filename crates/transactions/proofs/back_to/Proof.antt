@@ -16,9 +16,10 @@ close-levels-requires c κs =
 
 load-kept-requires : tie.Need-load-kept-requires
 load-kept-requires c κs =
+    let close-levels = c .before .before .close-levels in
     let s = c .before .before .before .before .before .before .before .before in
     let undo-to = c .before .before .before .before .before .undo-to in
-    (step.area-long (step.back-closed (s .pre .0 .ready .fit) (s .args .i) (s .args .n) (s .args .base) (s .pre .1 .0) (s .pre .1 .1) (undo-to .ensures) (c .before .before .close-levels .ensures) .fit), omega (arith, s .pre .1 .0, step.few (s .pre .0 .ready .fit)))
+    (step.area-long (step.back-closed (s .pre .0 .ready .fit) (s .args .i) (s .args .n) (s .args .base) (s .pre .1 .0) (s .pre .1 .1) (undo-to .ensures) (close-levels .ensures) .fit), omega (arith, s .pre .1 .0, step.few (s .pre .0 .ready .fit)))
 
 same-length : tie.Need-same-length
 same-length c = search needs

@@ -30,11 +30,12 @@ same-length-2 c = search needs
 
 returns-2 : tie.Need-returns-2
 returns-2 c =
+    let open-next = c .before .open-next in
     let s = c .before .before .before .before .before .before .before in
     let sc = schemaOf (s .args .schema .now) in
     let nat-at = c .before .before .before .before .nat-at in
     let if1 = c .before .before .before .if1 in
-    turn.turn-words (c .before .open-next .ensures) (turn.begin-opens sc (view sc (s .args .area .now)) (sym (step.count-is (s .pre .fit) (nat-at .ensures)) ∙ if1 .left) (step.closed-some (s .pre .fit) (omega (arith, nat-at .ensures, if1 .left))))
+    turn.turn-words (open-next .ensures) (turn.begin-opens sc (view sc (s .args .area .now)) (sym (step.count-is (s .pre .fit) (nat-at .ensures)) ∙ if1 .left) (step.closed-some (s .pre .fit) (omega (arith, nat-at .ensures, if1 .left))))
 
 pub begin-spec : {M : Type 1} → statement M
 begin-spec =

@@ -21,10 +21,12 @@ same-length c = search needs
 
 returns : tie.Need-returns
 returns c =
+    let numbers-at = c .before .before .numbers-at in
+    let all-zero = c .before .all-zero in
     let s = c .before .before .before .before .before in
     let sc = schemaOf (s .args .schema .now) in
     let a = s .args .area .now in
-    turn.turn-same (s .pre .fit) (turn.commit-refused sc (view sc a) (ap allZero (step.kept-at sc a ∙ sym (c .before .before .numbers-at .ensures)) ∙ sym (c .before .all-zero .ensures) ∙ not-true _ (c .if1 .taken)))
+    turn.turn-same (s .pre .fit) (turn.commit-refused sc (view sc a) (ap allZero (step.kept-at sc a ∙ sym (numbers-at .ensures)) ∙ sym (all-zero .ensures) ∙ not-true _ (c .if1 .taken)))
 
 end-requires : tie.Need-end-requires
 end-requires c κs = search needs

@@ -52,23 +52,25 @@ sub-close-levels c =
 
 close-levels-requires : tie.Need-close-levels-requires
 close-levels-requires c κs =
+    let nat-at = c .before .nat-at in
     let s = c .before .before .before .before .before .before .before .before in
     let is-open = c .before .before .before .before .before .is-open in
     let if1 = c .before .before .before .before .if1 in
-    (step.area-long (s .pre .0 .fit), (omega (arith, c .before .nat-at .ensures, s .pre .1, step.level-below (s .pre .0 .fit) (s .args .a) (sym (is-open .ensures) ∙ not-false _ (if1 .left))), step.levels-at-most (s .pre .0 .fit)))
+    (step.area-long (s .pre .0 .fit), (omega (arith, nat-at .ensures, s .pre .1, step.level-below (s .pre .0 .fit) (s .args .a) (sym (is-open .ensures) ∙ not-false _ (if1 .left))), step.levels-at-most (s .pre .0 .fit)))
 
 same-length-3 : tie.Need-same-length-3
 same-length-3 c = search needs
 
 returns-3 : tie.Need-returns-3
 returns-3 c =
+    let close-levels = c .before .close-levels in
     let s = c .before .before .before .before .before .before .before .before .before .before in
     let sc = schemaOf (s .args .schema .now) in
     let is-open = c .before .before .before .before .before .before .before .is-open in
     let if1 = c .before .before .before .before .before .before .if1 in
     let if2 = c .before .before .before .before .before .if2 in
     let nat-at = c .before .before .before .nat-at in
-    turn.turn-words (step.release-holds (s .pre .0 .fit) (nat-at .result) (s .args .a) (nat-at .ensures) (s .pre .1) (omega (arith, step.count-is (s .pre .0 .fit) (nat-at .ensures), step.level-below (s .pre .0 .fit) (s .args .a) (sym (is-open .ensures) ∙ not-false _ (if1 .left)))) (c .before .close-levels .ensures)) (turn.release-closes sc (view sc (s .args .area .now)) (s .args .a) (sym (is-open .ensures) ∙ not-false _ (if1 .left)) (ne-eqb _ 1 (if2 .left)))
+    turn.turn-words (step.release-holds (s .pre .0 .fit) (nat-at .result) (s .args .a) (nat-at .ensures) (s .pre .1) (omega (arith, step.count-is (s .pre .0 .fit) (nat-at .ensures), step.level-below (s .pre .0 .fit) (s .args .a) (sym (is-open .ensures) ∙ not-false _ (if1 .left)))) (close-levels .ensures)) (turn.release-closes sc (view sc (s .args .area .now)) (s .args .a) (sym (is-open .ensures) ∙ not-false _ (if1 .left)) (ne-eqb _ 1 (if2 .left)))
 
 pub release-spec : {M : Type 1} → statement M
 release-spec =

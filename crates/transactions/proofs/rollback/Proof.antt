@@ -46,13 +46,14 @@ same-length-2 c = search needs
 
 returns-2 : tie.Need-returns-2
 returns-2 c =
+    let abort = c .before .abort in
     let s = c .before .before .before .before .before .before .before .before .before .before .before in
     let sc = schemaOf (s .args .schema .now) in
     let nat-at = c .before .before .before .before .before .before .before .before .nat-at in
     let if1 = c .before .before .before .before .before .before .before .if1 in
     let nat-at2 = c .before .before .before .before .before .nat-at2 in
     let net-to = c .before .before .before .net-to in
-    turn.turn-words (c .before .abort .ensures) (turn.rollback-inside sc (view sc (s .args .area .now)) (step.positive _ (λ z. if1 .left (step.count-is (s .pre .ready .fit) (nat-at .ensures) ∙ z))) ∙ step.abort-answer (s .pre .ready .fit) (step.positive _ (λ z. if1 .left (step.count-is (s .pre .ready .fit) (nat-at .ensures) ∙ z))) (nat-at2 .result) (toZ w64 (ofZ w64 (net-to .result))) (step.used-is (s .pre .ready .fit) (nat-at2 .ensures)) (back _ (net-to .ok) ∙ net-to .ensures))
+    turn.turn-words (abort .ensures) (turn.rollback-inside sc (view sc (s .args .area .now)) (step.positive _ (λ z. if1 .left (step.count-is (s .pre .ready .fit) (nat-at .ensures) ∙ z))) ∙ step.abort-answer (s .pre .ready .fit) (step.positive _ (λ z. if1 .left (step.count-is (s .pre .ready .fit) (nat-at .ensures) ∙ z))) (nat-at2 .result) (toZ w64 (ofZ w64 (net-to .result))) (step.used-is (s .pre .ready .fit) (nat-at2 .ensures)) (back _ (net-to .ok) ∙ net-to .ensures))
 
 pub rollback-spec : {M : Type 1} → statement M
 rollback-spec =

@@ -103,12 +103,19 @@ same-length-2 c = search needs
 
 returns-2 : tie.Need-returns-2
 returns-2 c =
-    let le : c .before .before .before .before .before .nat-at3 .result ≤ c .before .before .before .before .before .before .before .nat-at2 .result = omega (arith, step.used-is (c .before .before .before .before .before .before .before .before .before .before .before .before .before .before .before .pre .0 .ready .fit) (c .before .before .before .before .before .before .before .nat-at2 .ensures), c .before .before .before .before .before .nat-at3 .ensures, step.base-bound (c .before .before .before .before .before .before .before .before .before .before .before .before .before .before .before .args .schema .now) (c .before .before .before .before .before .before .before .before .before .before .before .before .before .before .before .pre .0) (c .before .before .before .before .before .before .before .before .before .before .before .before .before .before .before .args .a - 1) (omega (arith, c .before .before .before .before .before .before .before .before .before .before .before .before .before .before .before .pre .1, (step.level-below (c .before .before .before .before .before .before .before .before .before .before .before .before .before .before .before .pre .0 .ready .fit) (c .before .before .before .before .before .before .before .before .before .before .before .before .before .before .before .args .a) (sym (c .before .before .before .before .before .before .before .before .before .before .before .before .is-open .ensures) ∙ not-false _ (c .before .before .before .before .before .before .before .before .before .before .before .if1 .left)))))) in
-    let e : c .before .before .before .before .before .before .before .before .before .nat-at .result - c .before .before .before .before .before .before .before .before .before .before .before .before .before .before .before .args .a ≡ length ((view (schemaOf (c .before .before .before .before .before .before .before .before .before .before .before .before .before .before .before .args .schema .now)) (c .before .before .before .before .before .before .before .before .before .before .before .before .before .before .before .args .area .now)) .levels) - c .before .before .before .before .before .before .before .before .before .before .before .before .before .before .before .args .a = ap (λ (n : ℕ). n - c .before .before .before .before .before .before .before .before .before .before .before .before .before .before .before .args .a) (step.count-is (c .before .before .before .before .before .before .before .before .before .before .before .before .before .before .before .pre .0 .ready .fit) (c .before .before .before .before .before .before .before .before .before .nat-at .ensures)) in
-    turn.turn-words (c .before .back-to .ensures)
-    (turn.back-rolls (schemaOf (c .before .before .before .before .before .before .before .before .before .before .before .before .before .before .before .args .schema .now)) (view (schemaOf (c .before .before .before .before .before .before .before .before .before .before .before .before .before .before .before .args .schema .now)) (c .before .before .before .before .before .before .before .before .before .before .before .before .before .before .before .args .area .now)) (c .before .before .before .before .before .before .before .before .before .before .before .before .before .before .before .args .a) (sym (c .before .before .before .before .before .before .before .before .before .before .before .before .is-open .ensures) ∙ not-false _ (c .before .before .before .before .before .before .before .before .before .before .before .if1 .left))
+    let is-open = c .before .before .before .before .before .before .before .before .before .before .before .before .is-open in
+    let if1 = c .before .before .before .before .before .before .before .before .before .before .before .if1 in
+    let nat-at = c .before .before .before .before .before .before .before .before .before .nat-at in
+    let nat-at2 = c .before .before .before .before .before .before .before .nat-at2 in
+    let nat-at3 = c .before .before .before .before .before .nat-at3 in
+    let net-to = c .before .before .before .net-to in
+    let back-to = c .before .back-to in
+    let le : nat-at3 .result ≤ nat-at2 .result = omega (arith, step.used-is (c .before .before .before .before .before .before .before .before .before .before .before .before .before .before .before .pre .0 .ready .fit) (nat-at2 .ensures), nat-at3 .ensures, step.base-bound (c .before .before .before .before .before .before .before .before .before .before .before .before .before .before .before .args .schema .now) (c .before .before .before .before .before .before .before .before .before .before .before .before .before .before .before .pre .0) (c .before .before .before .before .before .before .before .before .before .before .before .before .before .before .before .args .a - 1) (omega (arith, c .before .before .before .before .before .before .before .before .before .before .before .before .before .before .before .pre .1, (step.level-below (c .before .before .before .before .before .before .before .before .before .before .before .before .before .before .before .pre .0 .ready .fit) (c .before .before .before .before .before .before .before .before .before .before .before .before .before .before .before .args .a) (sym (is-open .ensures) ∙ not-false _ (if1 .left)))))) in
+    let e : nat-at .result - c .before .before .before .before .before .before .before .before .before .before .before .before .before .before .before .args .a ≡ length ((view (schemaOf (c .before .before .before .before .before .before .before .before .before .before .before .before .before .before .before .args .schema .now)) (c .before .before .before .before .before .before .before .before .before .before .before .before .before .before .before .args .area .now)) .levels) - c .before .before .before .before .before .before .before .before .before .before .before .before .before .before .before .args .a = ap (λ (n : ℕ). n - c .before .before .before .before .before .before .before .before .before .before .before .before .before .before .before .args .a) (step.count-is (c .before .before .before .before .before .before .before .before .before .before .before .before .before .before .before .pre .0 .ready .fit) (nat-at .ensures)) in
+    turn.turn-words (back-to .ensures)
+    (turn.back-rolls (schemaOf (c .before .before .before .before .before .before .before .before .before .before .before .before .before .before .before .args .schema .now)) (view (schemaOf (c .before .before .before .before .before .before .before .before .before .before .before .before .before .before .before .args .schema .now)) (c .before .before .before .before .before .before .before .before .before .before .before .before .before .before .before .args .area .now)) (c .before .before .before .before .before .before .before .before .before .before .before .before .before .before .before .args .a) (sym (is-open .ensures) ∙ not-false _ (if1 .left))
     ∙ ap (λ (k : ℕ). rolled (rules-book.back k (view (schemaOf (c .before .before .before .before .before .before .before .before .before .before .before .before .before .before .before .args .schema .now)) (c .before .before .before .before .before .before .before .before .before .before .before .before .before .before .before .args .area .now))) (view (schemaOf (c .before .before .before .before .before .before .before .before .before .before .before .before .before .before .before .args .schema .now)) (c .before .before .before .before .before .before .before .before .before .before .before .before .before .before .before .args .area .now))) (sym e)
-    ∙ step.back-answer (c .before .before .before .before .before .before .before .before .before .before .before .before .before .before .before .pre .0 .ready .fit) (c .before .before .before .before .before .before .before .before .before .before .before .before .before .before .before .args .a - 1) (c .before .before .before .before .before .before .before .before .before .nat-at .result - c .before .before .before .before .before .before .before .before .before .before .before .before .before .before .before .args .a) (c .before .before .before .before .before .nat-at3 .result) (omega (arith, c .before .before .before .before .before .before .before .before .before .before .before .before .before .before .before .pre .1, (step.level-below (c .before .before .before .before .before .before .before .before .before .before .before .before .before .before .before .pre .0 .ready .fit) (c .before .before .before .before .before .before .before .before .before .before .before .before .before .before .before .args .a) (sym (c .before .before .before .before .before .before .before .before .before .before .before .before .is-open .ensures) ∙ not-false _ (c .before .before .before .before .before .before .before .before .before .before .before .if1 .left))), step.count-is (c .before .before .before .before .before .before .before .before .before .before .before .before .before .before .before .pre .0 .ready .fit) (c .before .before .before .before .before .before .before .before .before .nat-at .ensures))) (c .before .before .before .before .before .nat-at3 .ensures) (c .before .before .before .before .before .before .before .nat-at2 .result) (toZ w64 (ofZ w64 (c .before .before .before .net-to .result))) (step.used-is (c .before .before .before .before .before .before .before .before .before .before .before .before .before .before .before .pre .0 .ready .fit) (c .before .before .before .before .before .before .before .nat-at2 .ensures)) le (back _ (c .before .before .before .net-to .ok) ∙ c .before .before .before .net-to .ensures))
+    ∙ step.back-answer (c .before .before .before .before .before .before .before .before .before .before .before .before .before .before .before .pre .0 .ready .fit) (c .before .before .before .before .before .before .before .before .before .before .before .before .before .before .before .args .a - 1) (nat-at .result - c .before .before .before .before .before .before .before .before .before .before .before .before .before .before .before .args .a) (nat-at3 .result) (omega (arith, c .before .before .before .before .before .before .before .before .before .before .before .before .before .before .before .pre .1, (step.level-below (c .before .before .before .before .before .before .before .before .before .before .before .before .before .before .before .pre .0 .ready .fit) (c .before .before .before .before .before .before .before .before .before .before .before .before .before .before .before .args .a) (sym (is-open .ensures) ∙ not-false _ (if1 .left))), step.count-is (c .before .before .before .before .before .before .before .before .before .before .before .before .before .before .before .pre .0 .ready .fit) (nat-at .ensures))) (nat-at3 .ensures) (nat-at2 .result) (toZ w64 (ofZ w64 (net-to .result))) (step.used-is (c .before .before .before .before .before .before .before .before .before .before .before .before .before .before .before .pre .0 .ready .fit) (nat-at2 .ensures)) le (back _ (net-to .ok) ∙ net-to .ensures))
 
 pub rollback-to-spec : {M : Type 1} → statement M
 rollback-to-spec =

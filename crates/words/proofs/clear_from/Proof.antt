@@ -31,13 +31,17 @@ loop-less : tie.Need-loop-less Inv-loop μ-loop
 loop-less c = search needs
 
 loop-again : tie.Need-loop-again Inv-loop μ-loop
-loop-again c = let l = c .before .loop in (omega arith, (omega arith, (simp length-set (l .inv .1 .1 .0), clear-step (c .before .before .args .area .now) (l .area) (c .before .before .args .from) (l .i) (l .inv .0) (omega arith) (l .inv .1 .1 .1))))
+loop-again c =
+    let loop = c .before .loop in
+    let l = loop in (omega arith, (omega arith, (simp length-set (l .inv .1 .1 .0), clear-step (c .before .before .args .area .now) (l .area) (c .before .before .args .from) (l .i) (l .inv .0) (omega arith) (l .inv .1 .1 .1))))
 
 same-length : tie.Need-same-length Inv-loop μ-loop
 same-length c = search needs
 
 returns : tie.Need-returns Inv-loop μ-loop
-returns c = let l = c .before .loop in clear-end (c .before .before .args .area .now) (l .area) (c .before .before .args .from) (l .i) (l .inv .1 .1 .0) (c .loop-test .left) (l .inv .1 .0) (l .inv .1 .1 .1)
+returns c =
+    let loop = c .before .loop in
+    let l = loop in clear-end (c .before .before .args .area .now) (l .area) (c .before .before .args .from) (l .i) (l .inv .1 .1 .0) (c .loop-test .left) (l .inv .1 .0) (l .inv .1 .1 .1)
 
 pub clear-from-spec : {M : Type 1} → statement M
 clear-from-spec =

@@ -42,8 +42,8 @@ loop-less c = search needs
 
 loop-again : tie.Need-loop-again Inv-loop μ-loop
 loop-again c =
-    let a = c .before .before .before .args in
     let l = c .before .before .loop in
+    let a = c .before .before .before .args in
     (search needs, (simp length-set (l .inv .1 .0), rw (back (getD (a .area .now) (a .p + l .k) (pos 0)) (c .v .given)) (read-more (replicate 32 (pos 0)) (a .area .now) (a .p) (l .k) (pos 0) (omega arith) (l .inv .1 .1))))
 
 returns : tie.Need-returns Inv-loop μ-loop
