@@ -1,7 +1,7 @@
 //! Schemas, calls and rows in words.
 
 use crate::model::area::Area;
-use crate::model::schema::{Action, Key, Schema, Table, Value};
+use crate::model::schema::{Key, Schema, Table, Value};
 
 pub fn schema_lines(schema: &Schema) -> Vec<String> {
     let tables = schema.tables.iter().enumerate();
@@ -46,8 +46,8 @@ fn key_words(key: &Key) -> String {
         } else {
             "immediate"
         },
-        action(key.on_delete),
-        action(key.on_update)
+        key.on_delete.sql(),
+        key.on_update.sql()
     )
 }
 
@@ -58,16 +58,6 @@ fn count(number: usize, what: &str) -> String {
 fn columns(list: &[usize]) -> String {
     let names: Vec<String> = list.iter().map(|c| format!("c{}", c)).collect();
     format!("({})", names.join(", "))
-}
-
-fn action(action: Action) -> &'static str {
-    match action {
-        Action::NoAction => "NO ACTION",
-        Action::Restrict => "RESTRICT",
-        Action::SetNull => "SET NULL",
-        Action::SetDefault => "SET DEFAULT",
-        Action::Cascade => "CASCADE",
-    }
 }
 
 fn value(value: &Value) -> String {

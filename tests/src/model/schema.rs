@@ -24,6 +24,19 @@ pub enum Action {
     Cascade,
 }
 
+impl Action {
+    /// The action as SQL says it.
+    pub fn sql(self) -> &'static str {
+        match self {
+            Action::NoAction => "NO ACTION",
+            Action::Restrict => "RESTRICT",
+            Action::SetNull => "SET NULL",
+            Action::SetDefault => "SET DEFAULT",
+            Action::Cascade => "CASCADE",
+        }
+    }
+}
+
 pub struct Key {
     pub child: usize,
     pub parent: usize,

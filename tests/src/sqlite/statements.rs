@@ -1,6 +1,6 @@
 //! SQL text of a schema.
 
-use crate::model::schema::{Action, Key, Schema, Table};
+use crate::model::schema::{Key, Schema, Table};
 
 /// A table with the row number `r` and columns `c0` onwards. SQLite runs the foreign keys declared
 /// last first, so they are declared from the last to the first.
@@ -32,8 +32,8 @@ fn foreign_key(key: &Key) -> String {
         names(&key.child_columns),
         key.parent,
         names(&key.parent_columns),
-        action(key.on_delete),
-        action(key.on_update),
+        key.on_delete.sql(),
+        key.on_update.sql(),
         if key.deferred {
             " DEFERRABLE INITIALLY DEFERRED"
         } else {
@@ -45,16 +45,6 @@ fn foreign_key(key: &Key) -> String {
 fn names(columns: &[usize]) -> String {
     let names: Vec<String> = columns.iter().map(|c| format!("c{}", c)).collect();
     names.join(",")
-}
-
-fn action(action: Action) -> &'static str {
-    match action {
-        Action::NoAction => "NO ACTION",
-        Action::Restrict => "RESTRICT",
-        Action::SetNull => "SET NULL",
-        Action::SetDefault => "SET DEFAULT",
-        Action::Cascade => "CASCADE",
-    }
 }
 
 /// An insert of the row number and the columns. INSERT .. VALUES of one row that an immediate key
