@@ -2,3 +2,4 @@
 pub mod Places
 pub mod Journal
 pub mod Refused
+pub mod SpareLaws

@@ -19,6 +19,7 @@ ghost use Rattle.bridge.specs.Ready.{Ready, Placed, Undoable};
 ghost use Rattle.bridge.proofs.Offsets.{rowOffset};
 ghost use Rattle.area.specs.Places.{RowPlace};
 ghost use Rattle.area.specs.Undone.{Undone};
+ghost use Rattle.area.specs.Spare.{Spare, DirtyEnd};
 use schema::SchemaAnswer;
 
 // ---- rows
@@ -130,7 +131,7 @@ pub fn undo_to(schema: &[u8], area: &mut [i64], to: usize)
 }
 
 // Zeroes every journal word past the records in use.
-pub fn clear_spare(schema: &[u8], area: &mut [i64])
+fn clear_spare(schema: &[u8], area: &mut [i64])
     requires { ⌜ Ready (now schema) (now area) ⌝ }
     ensures { λ _. ⌜ now (area .exit) ≡ words (cleared (view (schemaOf (now (schema .entry))) (now (area .entry)))) ⌝ }
 {
@@ -139,21 +140,37 @@ pub fn clear_spare(schema: &[u8], area: &mut [i64])
     words::clear_from(area, at);
 }
 
-// Puts a refused statement back: undoes to the use `used` at its entry, and zeroes every journal word past that.
-pub fn put_back(schema: &[u8], area: &mut [i64], used: usize)
-    requires { ⌜ Undoable (now schema) (now area) × (used ≤ length (workOf (schemaOf (now schema)) (now area) .used)) ⌝ }
+// Puts a refused statement back: undoes to the use `used` at its entry, and zeroes every journal word past that, unless they are known to be zero.
+pub fn put_back(schema: &[u8], area: &mut [i64], used: usize, clean: bool)
+    requires { ⌜ Undoable (now schema) (now area) × ((used ≤ length (workOf (schemaOf (now schema)) (now area) .used)) × Spare clean (schemaOf (now schema)) (now area)) ⌝ }
     ensures { λ _. ⌜ Undone (schemaOf (now (schema .entry))) used (now (area .entry)) (now (area .exit)) ⌝ }
 {
     undo_to(schema, area, used);
+    if clean {
+        return;
+    }
     clear_spare(schema, area);
 }
 
-// Empties the journal: zeroes all its words, and its use.
-pub fn empty_journal(schema: &[u8], area: &mut [i64])
-    requires { ⌜ Ready (now schema) (now area) ⌝ }
+// The end of the journal's words that may not be zero.
+fn dirty_end(schema: &[u8], area: &[i64], clean: bool) -> usize
+    requires { ⌜ Ready (now schema) (now area) × Spare clean (schemaOf (now schema)) (now area) ⌝ }
+    ensures { λ p. ⌜ DirtyEnd (schemaOf (now (schema .entry))) (now (area .entry)) p ⌝ }
+{
+    if clean {
+        let used = words::nat_at(area, 2);
+        return record_at(schema, used);
+    }
+    area.len()
+}
+
+// Empties the journal: zeroes all its words that may not be zero, and its use.
+pub fn empty_journal(schema: &[u8], area: &mut [i64], clean: bool)
+    requires { ⌜ Ready (now schema) (now area) × Spare clean (schemaOf (now schema)) (now area) ⌝ }
     ensures { λ _. ⌜ (workOf (schemaOf (now (schema .entry))) (now (area .exit)) ≡ emptied (workOf (schemaOf (now (schema .entry))) (now (area .entry)))) × Keeps (schemaOf (now (schema .entry))) (now (area .entry)) (now (area .exit)) ⌝ }
 {
     let at = fields::journal_start(schema);
-    words::clear_from(area, at);
+    let end = dirty_end(schema, area, clean);
+    words::clear_from(&mut area[0..end], at);
     area[2] = 0;
 }

@@ -16,3 +16,4 @@ pub mod Bits
 pub mod HoldLaws
 pub mod SoundLaws
 pub mod KeyLaws
+pub mod Zeros

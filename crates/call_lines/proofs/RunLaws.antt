@@ -1,6 +1,6 @@
 -- Calls run one after the other: what the loop of `run_calls` comes to.
 -- Assumes nothing.
-use mathlib.Core.Path.{_≡_, refl, sym, _∙_, ap, ap₂}
+use mathlib.Core.Path.{_≡_, refl, sym, _∙_, ap, ap₂, subst}
 use mathlib.Core.List.{List, [], _∷_}
 use Prim.Native.Nat.{ℕ, zero, suc, _+_, _*_, _-_, _/_, _%_, _≤_, _<_}
 use native.Mathlib.Omega.{arith}
@@ -15,6 +15,8 @@ use Rattle.rules.specs.Refusals.{shown}
 use Rattle.rules.specs.Step.{Logged, runAll}
 use Rattle.rules.specs.Area.{AreaTurn}
 use Rattle.rules.specs.Engine.{callOn, runOn}
+use Rattle.laws.specs.Reached.{Reached}
+use Rattle.laws.proofs.Reached.{reached-next}
 use Rattle.decoding.specs.CallBytes.{wordsAt}
 use Rattle.run_tally.specs.declared.Tally.{Tally}
 use Rattle.run_tally.specs.Tallies.{tallied}
@@ -74,6 +76,11 @@ unfolding ranCall
 one-call schema call r {area = area} e f g =
     ap₂ (λ (t : Tally) (p : ℕ × List ℕ). record { area = area; tally = t; text = p }) f g
     ∙ ap (λ (t : AreaTurn). record { area = t .1; tally = countedIn (r .tally) (t .0); text = put (lineOf (t .0)) (r .text) }) e
+
+-- calls led to its area
+pub reached-ran : {schema : List ℕ} (call : List ℤ) (r : Run) {next : Run} → Reached schema (r .area) → next ≡ ranCall schema call r → Reached schema (next .area)
+unfolding ranCall
+reached-ran {schema} call r h e = subst (λ (x : Run). Reached schema (x .area)) (sym e) (reached-next h call)
 
 module _ (schema bytes : List ℕ) where
   -- k calls from call i on

@@ -4,6 +4,7 @@ ghost use Prim.Native.Nat.{_+_, _*_, _≤_, min};
 ghost use lib.ListN.{length};
 ghost use Rattle.rules.specs.Refusals.{shown};
 ghost use Rattle.rules.specs.Engine.{callOn};
+ghost use Rattle.laws.specs.Reached.{Reached};
 ghost use Rattle.engine.specs.Calls.{areaWords};
 ghost use Rattle.lines.specs.Text.{put};
 ghost use Rattle.call_lines.specs.Runs.{lineOf, countedIn, callAt, callCount, runAt, ranCall, ran};
@@ -83,16 +84,16 @@ pub fn report(out: &mut [u8], progress: Progress, answer: Answer) -> Progress
 
 // Carries out call i of the bytes; one that is cut short is handed over as no words.
 fn call_at(schema: &[u8], area: &mut [i64], bytes: &[u8], i: usize) -> Answer
-    requires { ⌜ i * 96 ≤ length (now bytes) ⌝ }
+    requires { ⌜ Reached (now schema) (now area) × (i * 96 ≤ length (now bytes)) ⌝ }
     ensures { λ r. ⌜ (r, now (area .exit)) ≡ callOn (now (schema .entry)) (callAt (now (bytes .entry)) i) (now (area .entry)) ⌝ }
 {
     let at = i * 96;
     if 96 <= bytes.len() - at {
         let words = decoding::words_at(bytes, at);
-        return engine::call(schema, area, &words);
+        return engine::next(schema, area, &words);
     }
     let none = [0i64; 1];
-    engine::call(schema, area, &none[0..0])
+    engine::next(schema, area, &none[0..0])
 }
 
 // Carries out call i of the bytes, writes its line, and counts it.
@@ -104,7 +105,7 @@ fn run_call(
     out: &mut [u8],
     progress: Progress,
 ) -> Progress
-    requires { ⌜ (i * 96 ≤ length (now bytes)) × (progress .used + 64 ≤ length (now out)) ⌝ }
+    requires { ⌜ Reached (now schema) (now area) × (i * 96 ≤ length (now bytes)) × (progress .used + 64 ≤ length (now out)) ⌝ }
     ensures { λ r. ⌜ (runAt (now (area .exit)) r (now (out .exit)) ≡ ranCall (now (schema .entry)) (callAt (now (bytes .entry)) i) (runAt (now (area .entry)) progress (now (out .entry)))) × (r .used ≤ progress .used + 64) ⌝ }
 {
     let answer = call_at(schema, area, bytes, i);
@@ -122,7 +123,7 @@ fn call_count(length: usize) -> usize
     calls + 1
 }
 
-// Runs the calls that the bytes are, and writes their lines.
+// Runs the calls that the bytes are on an area that calls led to, and writes their lines.
 pub fn run_calls(
     schema: &[u8],
     area: &mut [i64],
@@ -130,8 +131,8 @@ pub fn run_calls(
     out: &mut [u8],
     progress: Progress,
 ) -> Progress
-    requires { ⌜ progress .used + 64 * callCount (length (now bytes)) ≤ length (now out) ⌝ }
-    ensures { λ r. ⌜ (runAt (now (area .exit)) r (now (out .exit)) ≡ ran (now (schema .entry)) (now (bytes .entry)) (runAt (now (area .entry)) progress (now (out .entry)))) × (r .used ≤ length (now (out .entry))) ⌝ }
+    requires { ⌜ Reached (now schema) (now area) × (progress .used + 64 * callCount (length (now bytes)) ≤ length (now out)) ⌝ }
+    ensures { λ r. ⌜ (runAt (now (area .exit)) r (now (out .exit)) ≡ ran (now (schema .entry)) (now (bytes .entry)) (runAt (now (area .entry)) progress (now (out .entry)))) × (r .used ≤ length (now (out .entry))) × Reached (now (schema .entry)) (now (area .exit)) ⌝ }
 {
     let n = call_count(bytes.len());
     let mut done = progress;

@@ -1,39 +1,43 @@
 -- Laws of a call on an area's words.
 -- Assumes nothing.
-use mathlib.Core.Path.{_≡_, refl, sym, ap, _∙_}
-use mathlib.Core.Bool.{Bool, true, false, not, _&&_}
+use mathlib.Core.Path.{_≡_, refl, sym, ap, subst, _∙_}
+use mathlib.Core.Bool.{Bool, true, false, false≢true, _&&_}
 use mathlib.Core.List.{List, _++_}
-use Prim.Native.Nat.{ℕ, _-_, _≤_, _<_}
+use Prim.Native.Nat.{ℕ, _-_, _≤_}
 use native.Mathlib.Omega.{arith}
 use borrow.Author.Tests.{eq-eqb, ne-eqb}
+use lib.Dec.{eqb}
 use lib.IntN.{ℤ, pos}
 use lib.ListN.{length, take, replicate}
 use Rattle.schema.specs.declared.SchemaAnswer.{SchemaAnswer}
 use Rattle.schema.specs.declared.SchemaAnswer.the-variants.{Accepted, Malformed, Unmatched}
-use Rattle.schema.specs.Records.{Schema, tableOf}
+use Rattle.schema.specs.Records.{Schema}
 use Rattle.schema.specs.Sizes.{areaSize}
 use Rattle.schema.specs.Fields.{schemaOf}
 use Rattle.schema.specs.Check.{checkSchema}
 use Rattle.rules.specs.declared.Answer.the-variants.{Done, Refused}
-use Rattle.rules.specs.declared.Refusal.the-variants.{SchemaMalformed, SchemaUnmatched, WrongLength, BadCall, Damaged, RowState}
+use Rattle.rules.specs.declared.Refusal.{Refusal}
+use Rattle.rules.specs.declared.Refusal.the-variants.{SchemaMalformed, SchemaUnmatched, WrongLength, BadCall, Damaged}
 use Rattle.rules.specs.Lists.{𝟘}
-use Rattle.rules.specs.Rows.{Row, Tables, rowAt, image, live, liveImage, deletedImage}
 use Rattle.rules.specs.State.{undamaged}
-use Rattle.rules.specs.Calls.{Call, parse, allowed, insert, update, delete}
-use Rattle.rules.specs.Change.{change}
-use Rattle.rules.specs.Statement.{check, statement, rowStatement}
+use Rattle.rules.specs.Calls.{Call, parse, allowed}
+use Rattle.rules.specs.Statement.{check}
 use Rattle.rules.specs.Step.{act, step}
-use Rattle.rules.specs.Area.{AreaTurn, view, words, legible, onWords, ensure, areaStep, freshWords}
+use Rattle.rules.specs.Area.{AreaTurn, view, legible, onWords, ensure, areaStep, freshWords}
 use Rattle.rules.specs.Engine.{underSchema, makeFresh, callOn}
-use Rattle.bridge.specs.Fit.{Fit, workOf}
-use Rattle.bridge.specs.Ready.{Sound}
+use Rattle.bridge.specs.Fit.{Fit}
 use Rattle.bridge.proofs.HoldLaws.{turn-same}
-use Rattle.bridge.proofs.KeyLaws.{live-same, get-padded}
+use Rattle.laws.specs.Reached.{Reached}
+use Rattle.laws.proofs.Reached.{reached-fresh, reached-sound}
+use Rattle.laws.proofs.Changed.{changed-few}
+use Rattle.answers.specs.AnswerWords.{answerWords}
+use Rattle.rules.specs.Refusals.{shown, accepted}
+use Rattle.rules.specs.declared.Answer.{Answer}
 use Rattle.call_form.specs.declared.Request.{Request}
 use Rattle.call_form.specs.declared.Request.the-variants as request
 use Rattle.call_form.specs.Requests.{callOf, judged}
-use Rattle.call_form.proofs.Requested.{isCall, Read, read-is, refused-is, insert-row, update-row, delete-row, release-level, rollback-level}
-use Rattle.engine.specs.Calls.{RowCall, isRefused, freshArea, wordsUnder, areaWords}
+use Rattle.call_form.proofs.Requested.{isCall, Read, read-is, refused-is}
+use Rattle.engine.specs.Calls.{isRefused, freshArea, wordsUnder, areaWords, callWords}
 
 -- ---- refusals 1 and 2
 module _ (b : List ℕ) (a : List ℤ) (x : SchemaAnswer) (e : x ≡ checkSchema b) where
@@ -73,6 +77,27 @@ module _ (s : Schema) (a : List ℤ) where
   fresh-cleared a′ h e =
       let n : length a - 0 ≡ areaSize s = omega (arith, h) in
       rw (eq-eqb (length a) (areaSize s) h, e, n) refl
+
+-- make fresh, not refused: the schema is accepted, and the area is fresh
+module _ (b : List ℕ) (a : List ℤ) {x : Answer} {a′ : List ℤ} (e : (x, a′) ≡ makeFresh b a) (done : accepted x ≡ true) where
+  not-refused : {r : Refusal} → makeFresh b a ≡ (Refused r, a) → ⊥
+  unfolding accepted
+  not-refused q = false≢true (sym (ap (λ (t : AreaTurn). accepted (t .0)) (e ∙ q)) ∙ done)
+
+  pub fresh-reached : Reached b a′
+  unfolding makeFresh underSchema ensure
+  fresh-reached = by (checkSchema b) refl
+    where
+      sized : checkSchema b ≡ Accepted → (t : Bool) → eqb (length a) (areaSize (schemaOf b)) ≡ t → Reached b a′
+      sized m false n = absurd (not-refused {r = WrongLength} (rw (m, n) refl))
+      sized m true n =
+          let made : makeFresh b a ≡ (Done 0 𝟘, freshWords (schemaOf b)) = rw (m, n) refl in
+          subst (Reached b) (sym (ap {B = List ℤ} (λ (t : AreaTurn). t .1) (e ∙ made))) (reached-fresh b m)
+
+      by : (k : SchemaAnswer) → checkSchema b ≡ k → Reached b a′
+      by Malformed m = absurd (not-refused (sym (fresh-malformed b a Malformed (sym m) refl)))
+      by Unmatched m = absurd (not-refused (sym (fresh-unmatched b a Unmatched (sym m) refl)))
+      by Accepted m = sized m (eqb (length a) (areaSize (schemaOf b))) refl
 
 -- ---- refusals 3, 4 and 10
 module _ (s : Schema) (c a : List ℤ) where
@@ -134,70 +159,25 @@ module _ (s : Schema) (c : List ℤ) where
     pub read-call : isRefused r ≡ false → Read s c (callOf r c)
     read-call h = read-is s c (callOf r c) (call-is r h) e
 
--- ---- statements
-module _ (b : List ℕ) (a : List ℤ) (t r : ℕ) (f : Fit (schemaOf b) a) where
-  row-refused : (fits : Bool) (new : Row) → fits ≡ false → (Refused RowState, a) ≡ onWords (rowStatement (schemaOf b) fits t r new (view (schemaOf b) a))
-  unfolding rowStatement check
-  row-refused fits new e = turn-same f (rw e refl)
+-- ---- a call on an area that calls led to
+module _ {b : List ℕ} {a : List ℤ} (h : Reached b a) (c : List ℤ) where
+  pub next-refused : allowed (schemaOf b) (parse c) ≡ false → (Refused BadCall, a) ≡ callOn b c a
+  next-refused e = bad-call (schemaOf b) c a (reached-sound h .ready .fit .size) e ∙ call-under b a Accepted (sym (h .accepted)) c refl
 
-  row-stated : (fits : Bool) (new : Row) → fits ≡ true → onWords (statement (schemaOf b) (change 16 (schemaOf b) t r new) (view (schemaOf b) a)) ≡ onWords (rowStatement (schemaOf b) fits t r new (view (schemaOf b) a))
-  unfolding rowStatement check
-  row-stated fits new e = rw e refl
+  pub next-carried : {d : Call} → Read (schemaOf b) c d → {x : AreaTurn} → x ≡ onWords (act (schemaOf b) d (view (schemaOf b) a)) → x ≡ callOn b c a
+  next-carried q e =
+      let f : Fit (schemaOf b) a = reached-sound h .ready .fit in
+      e ∙ carried (schemaOf b) c a (f .size) q (f .legible-is) (reached-sound h .undamaged-is) ∙ call-under b a Accepted (sym (h .accepted)) c refl
 
-  module _ (v : Bool) (e : v ≡ live (rowAt t r (workOf (schemaOf b) a .tabs))) (m : ℕ) (vs : List ℤ) where
-    pub insert-refused : v ≡ true → (Refused RowState, a) ≡ onWords (act (schemaOf b) (insert t r m vs) (view (schemaOf b) a))
-    unfolding act workOf
-    insert-refused h = row-refused _ _ (ap not (sym e ∙ h))
+-- ---- an answer's words
 
-    pub update-refused : v ≡ false → (Refused RowState, a) ≡ onWords (act (schemaOf b) (update t r m vs) (view (schemaOf b) a))
-    unfolding act workOf
-    update-refused h = row-refused _ _ (sym e ∙ h)
+-- an answer that a call gives
+pub answer-few : (bs : List ℕ) (c ws : List ℤ) {a : Answer} {ws′ : List ℤ} → (a, ws′) ≡ callOn bs c ws → shown a .1 ≤ 4096
+answer-few bs c ws e = rw (ap {B = Answer} (λ t. t .0) e) (changed-few bs c ws)
 
-    pub delete-refused : v ≡ false → (Refused RowState, a) ≡ onWords (act (schemaOf b) (delete t r) (view (schemaOf b) a))
-    unfolding act workOf
-    delete-refused h = row-refused _ _ (sym e ∙ h)
-
-    module _ (x : AreaTurn) (new : Row) (o : x ≡ onWords (statement (schemaOf b) (change 16 (schemaOf b) t r new) (view (schemaOf b) a))) where
-      pub insert-stated : v ≡ false → (n : ℕ) → n ≡ tableOf (schemaOf b) t .columns → new ≡ liveImage n m vs → x ≡ onWords (act (schemaOf b) (insert t r m vs) (view (schemaOf b) a))
-      unfolding act workOf
-      insert-stated h n w g = o ∙ row-stated _ new (ap not (sym e ∙ h)) ∙ rw (g, w) refl
-
-      pub update-stated : v ≡ true → (n : ℕ) → n ≡ tableOf (schemaOf b) t .columns → new ≡ liveImage n m vs → x ≡ onWords (act (schemaOf b) (update t r m vs) (view (schemaOf b) a))
-      unfolding act workOf
-      update-stated h n w g = o ∙ row-stated _ new (sym e ∙ h) ∙ rw (g, w) refl
-
-      pub delete-stated : v ≡ true → new ≡ deletedImage → x ≡ onWords (act (schemaOf b) (delete t r) (view (schemaOf b) a))
-      unfolding act workOf
-      delete-stated h g = o ∙ row-stated _ new (sym e ∙ h) ∙ rw g refl
-
--- a row is live where its image is
-pub row-live : (t r : ℕ) (tabs : Tables) {x : Row} → x ≡ image t r tabs → live x ≡ live (rowAt t r tabs)
-unfolding image
-row-live t r tabs e = ap live e ∙ live-same _ _ (get-padded 9 (rowAt t r tabs))
-
--- ---- dispatch
-module _ (b : List ℕ) (a c : List ℤ) (x : Request) (h : Sound b a) (e : callOf x c ≡ judged (schemaOf b) (parse c)) where
-  read-as : {y : Request} → x ≡ y → callOf y c ≡ judged (schemaOf b) (parse c)
-  read-as q = ap (λ (z : Request). callOf z c) (sym q) ∙ e
-
-  pub insert-call : {t r : ℕ} → x ≡ request.Insert t r → RowCall b a c t r
-  insert-call {t} {r} q = let p = insert-row (schemaOf b) c t r (read-as q) in record { sound = h; table = p .table; row = p .row; size = p .size }
-
-  pub update-call : {t r : ℕ} → x ≡ request.Update t r → RowCall b a c t r
-  update-call {t} {r} q = let p = update-row (schemaOf b) c t r (read-as q) in record { sound = h; table = p .table; row = p .row; size = p .size }
-
-  pub delete-call : {t r : ℕ} → x ≡ request.Delete t r → (t < length (schemaOf b .tables)) × (r < tableOf (schemaOf b) t .rows)
-  delete-call {t} {r} q = let p = delete-row (schemaOf b) c t r (read-as q) in (p .table, p .row)
-
-  pub release-call : {n : ℕ} → x ≡ request.Release n → 1 ≤ n
-  release-call {n} q = release-level (schemaOf b) c n (read-as q) .low
-
-  pub rollback-call : {n : ℕ} → x ≡ request.RollbackTo n → 1 ≤ n
-  rollback-call {n} q = rollback-level (schemaOf b) c n (read-as q) .low
-
-  pub malformed-call : x ≡ request.Malformed → (Refused BadCall, a) ≡ onWords (act (schemaOf b) (callOf x c) (view (schemaOf b) a))
-  unfolding act callOf
-  malformed-call q = turn-same {t = act (schemaOf b) (callOf x c) (view (schemaOf b) a)} (h .ready .fit) (rw q refl)
+pub answer-is : (bs : List ℕ) (c ws : List ℤ) {a : Answer} {w ws′ : List ℤ} → (a, ws′) ≡ callOn bs c ws → w ≡ answerWords a → (w, ws′) ≡ callWords bs c ws
+unfolding callWords
+answer-is bs c ws e f = λ i. ((f ∙ ap {B = List ℤ} (λ (t : AreaTurn). answerWords (t .0)) e) i, e i .1)
 
 -- ---- the length of an area
 

@@ -1,13 +1,12 @@
--- What the functions under a call require, and what refuses a request.
+-- What the public operations are made of.
 -- Assumes nothing.
-use mathlib.Core.Path.{_≡_}
 use mathlib.Core.Bool.{Bool, true, false}
 use mathlib.Core.List.{List}
-use Prim.Native.Nat.{ℕ, _<_}
+use Prim.Native.Nat.{ℕ}
 use lib.Dec.{eqb}
 use lib.IntN.{ℤ}
 use lib.ListN.{length}
-use Rattle.schema.specs.Records.{Schema, tableOf}
+use Rattle.schema.specs.Records.{Schema}
 use Rattle.schema.specs.Sizes.{areaSize}
 use Rattle.schema.specs.Fields.{schemaOf}
 use Rattle.schema.specs.Check.{checkSchema}
@@ -18,16 +17,10 @@ use Rattle.rules.specs.declared.Answer.the-variants.{Done}
 use Rattle.rules.specs.declared.Refusal.the-variants.{WrongLength}
 use Rattle.rules.specs.Lists.{𝟘}
 use Rattle.rules.specs.Area.{AreaTurn, ensure, freshWords}
-use Rattle.bridge.specs.Ready.{Sound}
+use Rattle.rules.specs.Engine.{callOn}
+use Rattle.answers.specs.AnswerWords.{answerWords}
 use Rattle.call_form.specs.declared.Request.{Request}
 use Rattle.call_form.specs.declared.Request.the-variants.{Malformed, Insert, Update, Delete, Begin, Savepoint, Release, RollbackTo, Rollback, Commit}
-
--- an insertion or an update of row r of table t, in a sound area
-pub record RowCall (b : List ℕ) (a c : List ℤ) (t r : ℕ) : Type 0 where
-  pub sound : Sound b a
-  pub table : t < length (schemaOf b .tables)
-  pub row : r < tableOf (schemaOf b) t .rows
-  pub size : length c ≡ 12
 
 -- refusal 4
 unfoldable pub isRefused : Request → Bool
@@ -54,3 +47,7 @@ wordsUnder Unmatched s = 0
 
 unfoldable pub areaWords : List ℕ → ℕ
 areaWords bs = wordsUnder (checkSchema bs) (schemaOf bs)
+
+-- a call: its answer's words, and the area
+unfoldable pub callWords : List ℕ → List ℤ → List ℤ → List ℤ × List ℤ
+callWords bs c ws = (answerWords (callOn bs c ws .0), callOn bs c ws .1)

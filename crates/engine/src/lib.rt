@@ -1,95 +1,18 @@
 // The engine: its public operations take any schema bytes, any area and any call.
 ghost use mathlib.Core.Path.{_≡_};
-ghost use Prim.Native.Nat.{_+_, _*_, _-_, _≤_, _<_};
-ghost use lib.IntN.{pos};
-ghost use lib.ListN.{length, getD, drop};
-ghost use Rattle.schema.specs.Records.{tableOf};
+ghost use Prim.Native.Nat.{_<_};
 ghost use Rattle.schema.specs.Fields.{schemaOf};
 ghost use Rattle.schema.specs.Check.{checkSchema};
-ghost use Rattle.rules.specs.Rows;
-ghost use Rattle.rules.specs.Values.{natOf};
-ghost use Rattle.rules.specs.Calls;
-ghost use Rattle.rules.specs.Step.{act};
-ghost use Rattle.rules.specs.Area.{view, onWords, areaStep};
+ghost use Rattle.rules.specs.Area.{areaStep};
 ghost use Rattle.rules.specs.Engine.{makeFresh, callOn};
-ghost use Rattle.bridge.specs.Fit.{workOf};
-ghost use Rattle.bridge.specs.Ready.{Sound, Placed};
-ghost use Rattle.call_form.specs.Requests.{callOf, judged};
-ghost use Rattle.engine.specs.Calls.{RowCall, isRefused, freshArea, areaWords};
-ghost use Rattle.engine.specs.Runs.{callWords, least, callsRun, oneRun, runCalls};
+ghost use Rattle.laws.specs.Reached.{Reached};
+ghost use Rattle.engine.specs.Calls.{isRefused, freshArea, areaWords, callWords};
 use call_form::Request;
 use rules::Answer;
 use rules::Refusal;
 use schema::SchemaAnswer;
 
-// ---- statements
-
-// Whether row r of table t is live.
-fn is_live_row(schema: &[u8], area: &[i64], t: usize, r: usize) -> bool
-    requires { ⌜ Placed (now schema) (now area) t r ⌝ }
-    ensures { λ x. ⌜ x ≡ Rows.live (Rows.rowAt t r (workOf (schemaOf (now (schema .entry))) (now (area .entry)) .tabs)) ⌝ }
-{
-    let image = area::image_of(schema, area, t, r);
-    rows::image_live(image)
-}
-
-// Kind 1: insert.
-fn insert(schema: &[u8], area: &mut [i64], call: &[i64], t: usize, r: usize) -> Answer
-    requires { ⌜ RowCall (now schema) (now area) (now call) t r ⌝ }
-    ensures { λ x. ⌜ (x, now (area .exit)) ≡ onWords (act (schemaOf (now (schema .entry))) (Calls.insert t r (natOf (getD (now (call .entry)) 3 (pos 0))) (drop 4 (now (call .entry)))) (view (schemaOf (now (schema .entry))) (now (area .entry)))) ⌝ }
-{
-    if is_live_row(schema, area, t, r) {
-        return Answer::Refused(Refusal::RowState);
-    }
-    let columns = fields::columns(schema, t);
-    let image = images::live_image(columns, call);
-    statements::change_row(schema, area, t, r, image)
-}
-
-// Kind 2: update.
-fn update(schema: &[u8], area: &mut [i64], call: &[i64], t: usize, r: usize) -> Answer
-    requires { ⌜ RowCall (now schema) (now area) (now call) t r ⌝ }
-    ensures { λ x. ⌜ (x, now (area .exit)) ≡ onWords (act (schemaOf (now (schema .entry))) (Calls.update t r (natOf (getD (now (call .entry)) 3 (pos 0))) (drop 4 (now (call .entry)))) (view (schemaOf (now (schema .entry))) (now (area .entry)))) ⌝ }
-{
-    if !is_live_row(schema, area, t, r) {
-        return Answer::Refused(Refusal::RowState);
-    }
-    let columns = fields::columns(schema, t);
-    let image = images::live_image(columns, call);
-    statements::change_row(schema, area, t, r, image)
-}
-
-// Kind 3: delete.
-fn delete(schema: &[u8], area: &mut [i64], t: usize, r: usize) -> Answer
-    requires { ⌜ Sound (now schema) (now area) × ((t < length (schemaOf (now schema) .tables)) × (r < tableOf (schemaOf (now schema)) t .rows)) ⌝ }
-    ensures { λ x. ⌜ (x, now (area .exit)) ≡ onWords (act (schemaOf (now (schema .entry))) (Calls.delete t r) (view (schemaOf (now (schema .entry))) (now (area .entry)))) ⌝ }
-{
-    if !is_live_row(schema, area, t, r) {
-        return Answer::Refused(Refusal::RowState);
-    }
-    statements::change_row(schema, area, t, r, [0i64; 9])
-}
-
 // ---- calls
-
-// Carries out a call that was read.
-fn carry_out(schema: &[u8], area: &mut [i64], call: &[i64], request: Request) -> Answer
-    requires { ⌜ Sound (now schema) (now area) × (callOf request (now call) ≡ judged (schemaOf (now schema)) (Calls.parse (now call))) ⌝ }
-    ensures { λ x. ⌜ (x, now (area .exit)) ≡ onWords (act (schemaOf (now (schema .entry))) (callOf request (now (call .entry))) (view (schemaOf (now (schema .entry))) (now (area .entry)))) ⌝ }
-{
-    match request {
-        Request::Malformed => Answer::Refused(Refusal::BadCall),
-        Request::Insert(t, r) => insert(schema, area, call, t, r),
-        Request::Update(t, r) => update(schema, area, call, t, r),
-        Request::Delete(t, r) => delete(schema, area, t, r),
-        Request::Begin => transactions::begin(schema, area),
-        Request::Savepoint => transactions::savepoint(schema, area),
-        Request::Release(a) => transactions::release(schema, area, a),
-        Request::RollbackTo(a) => transactions::rollback_to(schema, area, a),
-        Request::Rollback => transactions::rollback(schema, area),
-        Request::Commit => transactions::commit(schema, area),
-    }
-}
 
 // Whether refusal 4 refuses a request.
 fn is_refused(request: Request) -> bool
@@ -124,7 +47,19 @@ fn call_area(schema: &[u8], area: &mut [i64], call: &[i64]) -> Answer
     if !area_form::is_undamaged(schema, area) {
         return Answer::Refused(Refusal::Damaged);
     }
-    carry_out(schema, area, call, request)
+    calls::carry_out(schema, area, call, request, false)
+}
+
+// A call on an area that calls led to from a fresh one, under a schema that was accepted: only refusal 4, then the call.
+pub fn next(schema: &[u8], area: &mut [i64], call: &[i64]) -> Answer
+    requires { ⌜ Reached (now schema) (now area) ⌝ }
+    ensures { λ x. ⌜ (x, now (area .exit)) ≡ callOn (now (schema .entry)) (now (call .entry)) (now (area .entry)) ⌝ }
+{
+    let request = call_form::read_call(schema, call);
+    if is_refused(request) {
+        return Answer::Refused(Refusal::BadCall);
+    }
+    calls::carry_out(schema, area, call, request, true)
 }
 
 // Zeroes an area of the right length.
@@ -174,8 +109,6 @@ pub fn call(schema: &[u8], area: &mut [i64], call: &[i64]) -> Answer
     }
 }
 
-// ---- calls laid end to end
-
 // Carries out a call, or refuses it; answers its code, rows changed and net.
 pub fn call_words(schema: &[u8], area: &mut [i64], numbers: &[i64]) -> [i64; 3]
     ensures { λ x. ⌜ (x, now (area .exit)) ≡ callWords (now (schema .entry)) (now (numbers .entry)) (now (area .entry)) ⌝ }
@@ -184,49 +117,11 @@ pub fn call_words(schema: &[u8], area: &mut [i64], numbers: &[i64]) -> [i64; 3]
     answers::answer_words(answer)
 }
 
-// Where the call that begins at `from` ends.
-fn call_end(words: usize, from: usize) -> usize
-    requires { ⌜ from ≤ words ⌝ }
-    ensures { λ x. ⌜ x ≡ from + least 12 (words - from) ⌝ }
+// The same on an area that calls led to from a fresh one, under a schema that was accepted.
+pub fn next_words(schema: &[u8], area: &mut [i64], numbers: &[i64]) -> [i64; 3]
+    requires { ⌜ Reached (now schema) (now area) ⌝ }
+    ensures { λ x. ⌜ (x, now (area .exit)) ≡ callWords (now (schema .entry)) (now (numbers .entry)) (now (area .entry)) ⌝ }
 {
-    if 12 <= words - from {
-        return from + 12;
-    }
-    words
-}
-
-// Runs call i of those laid end to end, and writes its answer.
-fn run_call(schema: &[u8], area: &mut [i64], calls: &[i64], answers: &mut [i64], i: usize)
-    requires { ⌜ (i * 12 ≤ length (now calls)) × (i * 3 + 3 ≤ length (now answers)) ⌝ }
-    ensures { λ _. ⌜ (now (area .exit), now (answers .exit)) ≡ oneRun (now (schema .entry)) (now (calls .entry)) i (now (area .entry), now (answers .entry)) ⌝ }
-{
-    let from = i * 12;
-    let to = call_end(calls.len(), from);
-    let answer = call_words(schema, area, &calls[from..to]);
-    answers::put_answer(answers, i, answer);
-}
-
-// How many calls are run.
-fn calls_run(words: usize, room: usize) -> usize
-    ensures { λ x. ⌜ x ≡ callsRun words room ⌝ }
-{
-    let calls = words / 12 + (words % 12 + 11) / 12;
-    let answers = room / 3;
-    if calls <= answers {
-        return calls;
-    }
-    answers
-}
-
-// Runs calls of twelve words laid end to end and writes their answers, three words each, as far as `answers` has room; says how many.
-pub fn run(schema: &[u8], area: &mut [i64], calls: &[i64], answers: &mut [i64]) -> usize
-    ensures { λ n. ⌜ (n, now (area .exit), now (answers .exit)) ≡ runCalls (now (schema .entry)) (now (calls .entry)) (now (area .entry)) (now (answers .entry)) ⌝ }
-{
-    let n = calls_run(calls.len(), answers.len());
-    let mut i = 0;
-    while i < n {
-        run_call(schema, area, calls, answers, i);
-        i += 1;
-    }
-    n
+    let answer = next(schema, area, numbers);
+    answers::answer_words(answer)
 }

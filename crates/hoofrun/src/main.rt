@@ -2,6 +2,7 @@
 ghost use mathlib.Core.Path.{_≡_};
 ghost use Prim.Native.Nat.{_*_, _≤_};
 ghost use lib.ListN.{length, take};
+ghost use Rattle.laws.specs.Reached.{Reached};
 ghost use Rattle.call_lines.specs.Runs.{callCount, after};
 use call_lines::Progress;
 use libc::STDIN_FILENO;
@@ -46,8 +47,8 @@ fn run_piece(
     out: &mut [u8],
     tally: Tally,
 ) -> Piece
-    requires { ⌜ 64 * callCount (length (now input)) ≤ length (now out) ⌝ }
-    ensures { λ r. ⌜ (now (area .exit), r .tally) ≡ after (now (schema .entry)) (take (r .read) (now (input .exit))) (now (area .entry)) tally ⌝ }
+    requires { ⌜ Reached (now schema) (now area) × (64 * callCount (length (now input)) ≤ length (now out)) ⌝ }
+    ensures { λ r. ⌜ ((now (area .exit), r .tally) ≡ after (now (schema .entry)) (take (r .read) (now (input .exit))) (now (area .entry)) tally) × Reached (now (schema .entry)) (now (area .exit)) ⌝ }
 {
     let n = io::read_full(STDIN_FILENO, input);
     let begun = Progress {
@@ -72,7 +73,7 @@ fn run_input(
     out: &mut [u8],
     tally: Tally,
 ) -> Tally
-    requires { ⌜ 64 * callCount (length (now input)) ≤ length (now out) ⌝ }
+    requires { ⌜ Reached (now schema) (now area) × (64 * callCount (length (now input)) ≤ length (now out)) ⌝ }
 {
     let full = input.len();
     let mut piece = Piece {
@@ -103,18 +104,25 @@ fn refuse(out: &mut [u8], tally: Tally, answer: Answer) -> Tally
 }
 
 // Makes the area fresh and runs the calls, or refuses the schema.
+fn run_area(schema: &[u8], area: &mut [i64], out: &mut [u8], tally: Tally) -> Tally
+    requires { ⌜ 65536 ≤ length (now out) ⌝ }
+{
+    let answer = engine::make_fresh(schema, area);
+    match answer {
+        Answer::Done(_, _) => {
+            let mut input = [0u8; 65472];
+            run_input(schema, area, &mut input, out, tally)
+        }
+        Answer::Refused(_) => refuse(out, tally, answer),
+    }
+}
+
+// Runs the input on as many of the words as the schema needs.
 fn run(schema: &[u8], words: &mut [i64], out: &mut [u8], tally: Tally) -> Tally
     requires { ⌜ 65536 ≤ length (now out) ⌝ }
 {
     let n = call_lines::words_taken(schema, words.len());
-    let answer = engine::make_fresh(schema, &mut words[0..n]);
-    match answer {
-        Answer::Done(_, _) => {
-            let mut input = [0u8; 65472];
-            run_input(schema, &mut words[0..n], &mut input, out, tally)
-        }
-        Answer::Refused(_) => refuse(out, tally, answer),
-    }
+    run_area(schema, &mut words[0..n], out, tally)
 }
 
 // Heading, schema, calls, tally.

@@ -1,12 +1,12 @@
 -- What a rollback gives does not change as calls are made after the level opened.
 -- Assumes nothing.
-use mathlib.Core.Path.{_≡_, refl, sym, _∙_, ap, ap₂, subst}
+use mathlib.Core.Path.{_≡_, refl, sym, _∙_, ap, subst}
 use mathlib.Core.Bool.{true, false, false≢true, true≢false}
 use mathlib.Core.List.{List, [], _∷_, _++_, append-assoc}
 use Prim.Native.Nat.{ℕ, zero, suc, _+_, _-_, _≤_, _<_}
 use native.Mathlib.Omega.{arith}
 use native.Mathlib.Nat.{zero-add}
-use lib.Dec.{eqb, eqb→eq}
+use lib.Dec.{eqb→eq}
 use lib.IntN.{ℤ}
 use lib.ListN.{length, take, drop, replicate, length-append, length-drop, replicate-append-replicate}
 use lib.Seq.{take-append-add, drop-append-add, drop-drop, take-add}
@@ -19,25 +19,13 @@ use Rattle.rules.specs.State.{inTransaction, openerFits, keptInRange, savedInRa
 use Rattle.schema.specs.Ranges.{all}
 use Rattle.schema.specs.Records.{Schema}
 use Rattle.bridge.proofs.Books.{sized, work-path, book-path}
+use Rattle.bridge.proofs.Zeros.{clean-front}
 
 module _ {A : Type 0} (z : A) where
-  pub clean-front : (xs ys : List A) → xs ++ ys ≡ replicate (length (xs ++ ys)) z → xs ≡ replicate (length xs) z
-  clean-front [] ys e = refl
-  clean-front (x ∷ xs) ys e =
-      let e₁ : x ≡ z = cc in
-      let e₂ : xs ++ ys ≡ replicate (length (xs ++ ys)) z = cc in
-      ap₂ (λ a l. a ∷ l) e₁ (clean-front xs ys e₂)
-
-  pub clean-rest : (xs ys : List A) → xs ++ ys ≡ replicate (length (xs ++ ys)) z → ys ≡ replicate (length ys) z
-  clean-rest [] ys e = e
-  clean-rest (x ∷ xs) ys e =
-      let e₂ : xs ++ ys ≡ replicate (length (xs ++ ys)) z = cc in
-      clean-rest xs ys e₂
-
   -- a clean list's front may be written as so many zeros
   clean-swap : (n k : ℕ) (xs ys : List A) → length xs ≡ n → xs ++ ys ≡ replicate (length (xs ++ ys)) z → replicate (n + k) z ++ ys ≡ replicate k z ++ (xs ++ ys)
   clean-swap n k xs ys l e =
-      let f : xs ≡ replicate n z = clean-front xs ys e ∙ ap (λ m. replicate m z) l in
+      let f : xs ≡ replicate n z = clean-front z xs ys e ∙ ap (λ m. replicate m z) l in
       let c : n + k ≡ k + n = omega arith in
       rw c (rw (← (replicate-append-replicate k n z)) (rw append-assoc (ap (λ l. replicate k z ++ (l ++ ys)) (sym f))))
 

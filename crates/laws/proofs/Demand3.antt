@@ -41,7 +41,7 @@ module _ (bs : List ℕ) (acc : checkSchema bs ≡ Accepted) {start : Book} (goo
   is-valid = valid bs (accepted-formed bs acc)
 
   -- the same list of calls, on words and on books
-  follows : (cs : List (List ℤ)) → runOn bs cs (words start) ≡ (run (schemaOf bs) cs start .0, words (run (schemaOf bs) cs start .1))
+  pub follows : (cs : List (List ℤ)) → runOn bs cs (words start) ≡ (run (schemaOf bs) cs start .0, words (run (schemaOf bs) cs start .1))
   follows cs = run-is bs acc cs (words start) ∙ area-run is-valid (empty is-valid good none-open) cs
 
   module _ (cs : List (List ℤ)) where
@@ -54,7 +54,7 @@ module _ (bs : List ℕ) (acc : checkSchema bs ≡ Accepted) {start : Book} (goo
     reached : Inv (schemaOf bs) start (run (schemaOf bs) cs start .1) (strike (run (schemaOf bs) cs start .0) .line) (strike (run (schemaOf bs) cs start .0) .pile)
     reached = invariant is-valid good none-open cs
 
-    end-good : Good (schemaOf bs) (run (schemaOf bs) cs start .1)
+    pub end-good : Good (schemaOf bs) (run (schemaOf bs) cs start .1)
     end-good = reached .now .good
 
     end-view : view (schemaOf bs) (words (run (schemaOf bs) cs start .1)) ≡ run (schemaOf bs) cs start .1
@@ -105,16 +105,16 @@ module _ (bs : List ℕ) (acc : checkSchema bs ≡ Accepted) {start : Book} (goo
         on-words (λ r. regularAnswer (callOn bs c (r .1) .0) ≡ true) (ap regularAnswer (next-is c) ∙ outcome-regular (outcome is-valid end-good c))
 
 -- from a fresh area
+pub fresh-good : (bs : List ℕ) → checkSchema bs ≡ Accepted → Good (schemaOf bs) (fresh (schemaOf bs))
+fresh-good bs acc = good-fresh (valid bs (accepted-formed bs acc))
+
+pub fresh-none : (s : Schema) → fresh s .levels ≡ []
+unfolding fresh
+fresh-none s = refl
+
 module _ (bs : List ℕ) (acc : checkSchema bs ≡ Accepted) (cs : List (List ℤ)) where
-  fresh-good : Good (schemaOf bs) (fresh (schemaOf bs))
-  fresh-good = good-fresh (valid bs (accepted-formed bs acc))
-
-  fresh-none : fresh (schemaOf bs) .levels ≡ []
-  unfolding fresh
-  fresh-none = refl
-
   pub fresh-demand-3 : Demand3 bs (freshWords (schemaOf bs)) cs
-  fresh-demand-3 = rw (← (words-fresh (schemaOf bs))) (demand-3 bs acc fresh-good fresh-none cs)
+  fresh-demand-3 = rw (← (words-fresh (schemaOf bs))) (demand-3 bs acc (fresh-good bs acc) (fresh-none (schemaOf bs)) cs)
 
   pub fresh-never-damaged : (c : List ℤ) → regularAnswer (callOn bs c (endOf bs (freshWords (schemaOf bs)) cs) .0) ≡ true
-  fresh-never-damaged c = rw (← (words-fresh (schemaOf bs))) (never-damaged bs acc fresh-good fresh-none cs c)
+  fresh-never-damaged c = rw (← (words-fresh (schemaOf bs))) (never-damaged bs acc (fresh-good bs acc) (fresh-none (schemaOf bs)) cs c)

@@ -11,8 +11,9 @@ use lib.ListN.{length, drop, getD, length-drop, replicate, length-append, length
 use Rattle.bridge.proofs.Books.{sized, work-path, book-path}
 use Rattle.bridge.proofs.Shapes.{shaped-fresh}
 use Rattle.bridge.proofs.Tests.{and-both, passes, all-cons, all-append, all-drop}
+use Rattle.bridge.proofs.Zeros.{clean-rest, clean-more}
 use Rattle.bridge.proofs.Undo.{Undoes, nine, shaped-after}
-use Rattle.laws.proofs.Back.{Good, Uses, some-open, moved, unused, clean-rest}
+use Rattle.laws.proofs.Back.{Good, Uses, some-open, moved, unused}
 use Rattle.rules.specs.Book.{Level, Work, Book, zeroRecords, zeroLevels, emptied, cleared, close, ended, blank, fresh, push}
 use Rattle.rules.specs.Keys.{counts, orphans, orphan, due, fullKey}
 use Rattle.rules.specs.Lists.{𝟘, count}
@@ -94,9 +95,7 @@ module _ {s : Schema} {b : Book} (g : Good s b) where
       }
 
   zero-closed : (n : ℕ) → zeroLevels n ++ b .closed ≡ zeroLevels (length (zeroLevels n ++ b .closed))
-  zero-closed n =
-      let e : n + length (b .closed) ≡ length (zeroLevels n ++ b .closed) = simp (length-append, length-replicate) in
-      ap (λ l. zeroLevels n ++ l) (g .closed-zero) ∙ replicate-append-replicate n (length (b .closed)) (replicate 33 𝟘) ∙ ap zeroLevels e
+  zero-closed n = clean-more _ n (b .closed) (g .closed-zero)
 
   pub good-close : (j : ℕ) → j < length (b .levels) → Good s (close j b)
   unfolding close

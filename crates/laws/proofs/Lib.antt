@@ -7,3 +7,4 @@ pub mod Areas
 pub mod Undone
 pub mod Changed
 pub mod Demand3
+pub mod Reached

@@ -16,7 +16,7 @@ use Rattle.laws.proofs.Back.{Good, moved, some-open, length-zero, open-
 use Rattle.laws.proofs.Good.{good-moved, good-push, good-close, good-ended, good-undamaged}
 use Rattle.laws.proofs.Outcome.{Outcome, refusal, moving, alone, opening, closing, ending, backing, aborting, outcome}
 use Rattle.rules.specs.Book.{Work, Book, close, back, ended, abort, push}
-use Rattle.rules.specs.Calls.{Call, release, rollback, commit, formedIf, parsed, parse, levelNumber, allowed}
+use Rattle.rules.specs.Calls.{Call, release, commit, formedIf, parsed, parse, levelNumber, allowed}
 use Rattle.rules.specs.Keys.{counts}
 use Rattle.rules.specs.Lists.{𝟘}
 use Rattle.rules.specs.Refusals.{accepted}
@@ -32,10 +32,12 @@ use Rattle.rules.specs.declared.Refusal.the-variants.{CommitWithOrphans}
 use Rattle.schema.proofs.SchemaLaws.{Valid}
 use Rattle.schema.specs.Records.{Schema}
 
-run-snoc : (s : Schema) (cs : List (List ℤ)) (c : List ℤ) (b : Book) → run s (cs ++ (c ∷ [])) b ≡ (run s cs b .0 ++ ((c, step s c (run s cs b .1) .0) ∷ []), step s c (run s cs b .1) .1)
-unfolding runAll
-run-snoc s [] c b = refl
-run-snoc s (c′ ∷ cs) c b = ap {B = List Logged × Book} (λ r. ((c′, step s c′ b .0) ∷ r .0, r .1)) (run-snoc s cs c (step s c′ b .1))
+-- one call more
+module _ {A : Type 0} (turn : List ℤ → A → Answer × A) where
+  pub run-snoc : (cs : List (List ℤ)) (c : List ℤ) (a : A) → runAll turn (cs ++ (c ∷ [])) a ≡ (runAll turn cs a .0 ++ ((c, turn c (runAll turn cs a .1) .0) ∷ []), turn c (runAll turn cs a .1) .1)
+  unfolding runAll
+  run-snoc [] c a = refl
+  run-snoc (c′ ∷ cs) c a = ap {B = List Logged × A} (λ r. ((c′, turn c′ a .0) ∷ r .0, r .1)) (run-snoc cs c (turn c′ a .1))
 
 -- the line's calls, run from the start, get the line's answers and lead to the book
 pub record Reach (s : Schema) (start : Book) (line : List Logged) (b : Book) : Type 0 where
@@ -48,7 +50,7 @@ reach-join {s} {start} {line} {b} r c a b′ e g =
     record {
       runs =
           ap (λ cs. run s cs start) (map-append (λ (x : Logged). x .0) line ((c, a) ∷ []))
-          ∙ run-snoc s (callsOf line) c start
+          ∙ run-snoc (step s) (callsOf line) c start
           ∙ ap {B = List Logged × Book} (λ q. (q .0 ++ ((c, step s c (q .1) .0) ∷ []), step s c (q .1) .1)) (r .runs)
           ∙ ap {B = List Logged × Book} (λ t. (line ++ ((c, t .0) ∷ []), t .1)) e;
       good = g;

@@ -1,1 +1,2 @@
 pub mod Regular
+pub mod Reached

@@ -38,6 +38,8 @@ use Rattle.bridge.proofs.SoundLaws.{undoable}
 use Rattle.bridge.proofs.HoldLaws.{holds-view, then-work, turn-words}
 use Rattle.bridge.proofs.LevelWords.{kept-at}
 use Rattle.area.specs.Undone.{Undone}
+use Rattle.area.specs.Spare.{Spare}
+use Rattle.area.proofs.SpareLaws.{spare-changed}
 use Rattle.area.proofs.Refused.{refused-words}
 use Rattle.levels.specs.Parts.{withKept}
 use Rattle.levels.proofs.LevelReads.{inside-is, level-count}
@@ -57,6 +59,10 @@ inside-word {s} {a} f = inside-is (view s a .levels) ∙ ap (leb 1) (level-count
 module _ {s : Schema} {a : List ℤ} (f : Fit s a) (kept : List ℤ) (l : length kept ≡ 32) {a₁ : List ℤ} (e₁ : a₁ ≡ sets a 4 kept) where
   pub kept-holds : Holds s a₁ (withKept kept (view s a))
   kept-holds = then-kept (holds-view f) kept l e₁
+
+  pub kept-work : workOf s a₁ ≡ workOf s a
+  unfolding workOf
+  kept-work = ap (λ (b : Book). b .work) (kept-holds .is)
 
   levels-same : inTransaction (view s a .levels) ≡ leb 1 (natOf (getD a₁ 0 𝟘))
   levels-same = ap (λ (b : Book). inTransaction (b .levels)) (sym (kept-holds .is)) ∙ inside-word (kept-holds .fit)
@@ -118,8 +124,8 @@ pub passed-holds : (s : Schema) (kept a a′ : List ℤ) {o : Verdict} → o ≡
 unfolding After
 passed-holds s kept a a′ q h = subst (λ o. After s o kept a a′) q h
 
-pub undoable-same : {b : List ℕ} {n : ℕ} {a a′ tally : List ℤ} → Ending b a tally n → a′ ≡ a → Undoable b a′ × (n ≤ length (workOf (schemaOf b) a′ .used))
-undoable-same {b} {n} h e = subst (λ l. Undoable b l × (n ≤ length (workOf (schemaOf b) l .used))) (sym e) (h .undoable, h .begun)
+pub undoable-same : {b : List ℕ} {n : ℕ} {a a′ tally : List ℤ} {clean : Bool} → Ending b a tally n → Spare clean (schemaOf b) a → a′ ≡ a → Undoable b a′ × ((n ≤ length (workOf (schemaOf b) a′ .used)) × Spare clean (schemaOf b) a′)
+undoable-same {b} {n} {clean = clean} h z e = subst (λ l. Undoable b l × ((n ≤ length (workOf (schemaOf b) l .used)) × Spare clean (schemaOf b) l)) (sym e) (h .undoable, (h .begun, z))
 
 module _ (s : Schema) (n : ℕ) (tally a : List ℤ) where
   pub ended-fail : (c : Refusal) (a₁ a₂ : List ℤ) → Fail c ≡ settled s tally a → a₁ ≡ a → Undone s n a₁ a₂ → Ended s (settled s tally a) n tally (Refused c) a a₂
@@ -173,24 +179,30 @@ module _ (b : List ℕ) {a : List ℤ} (h : Sound b a) (body : Work → Result) 
   changed-ready : Ready b a₁
   changed-ready = record { accepted = h .ready .accepted; fit = e .1 .keeps .fit }
 
-  -- what is required to put them back, and to settle them
-  pub changed-undoable : Undoable b a₁ × (n ≤ length (workOf (schemaOf b) a₁ .used))
-  changed-undoable = (
-    record { ready = changed-ready; places = placed-all (h .ready .fit) (e .1 .keeps) undoes (undoable h .places) },
-    rw (undoes .used-is) (simp length-append (omega (arith, use-at))),
-  )
+  can-undo : Undoable b a₁
+  can-undo = record { ready = changed-ready; places = placed-all (h .ready .fit) (e .1 .keeps) undoes (undoable h .places) }
 
-  pub changed-ending : Ending b a₁ tally n
-  changed-ending =
+  begun-at : n ≤ length (workOf (schemaOf b) a₁ .used)
+  begun-at = rw (undoes .used-is) (simp length-append (omega (arith, use-at)))
+
+  -- what is required to put them back, and to settle them
+  pub changed-undoable : {clean : Bool} → Spare clean (schemaOf b) a → Undoable b a₁ × ((n ≤ length (workOf (schemaOf b) a₁ .used)) × Spare clean (schemaOf b) a₁)
+  changed-undoable z = (can-undo, (begun-at, spare-changed s a a₁ z undoes))
+
+  ending : Ending b a₁ tally n
+  ending =
       record {
         settling = record {
           ready = changed-ready;
           kept-small = rw (kept-same (e .1 .keeps)) (kept-bound b h);
           tally-small = movement-small (accepted-valid b (h .ready .accepted)) (h .ready .fit) (e .1);
         };
-        undoable = changed-undoable .0;
-        begun = changed-undoable .1;
+        undoable = can-undo;
+        begun = begun-at;
       }
+
+  pub changed-ending : {clean : Bool} → Spare clean (schemaOf b) a → Ending b a₁ tally n × Spare clean (schemaOf b) a₁
+  changed-ending z = (ending, spare-changed s a a₁ z undoes)
 
   cleared-words : {a₂ : List ℤ} → Undone (schemaOf b) n a₁ a₂ → a₂ ≡ words (cleared (view (schemaOf b) a))
   cleared-words {a₂} u = refused-words (h .ready .fit) (e .1 .keeps) undoes (subst (λ m. Undone s m a₁ a₂) use-at u)

@@ -1,4 +1,5 @@
 // A statement: a row change with its actions, and its end, where the kept numbers are settled.
+// `clean` says that every journal word past the records in use is known to be zero.
 ghost use mathlib.Core.Path.{_≡_};
 ghost use Prim.Native.Nat.{_<_};
 ghost use lib.ListN.{length};
@@ -12,6 +13,7 @@ ghost use Rattle.rules.specs.Statement.{immediateZero, enforced, afterStatement
 ghost use Rattle.rules.specs.Area.{view, onWords};
 ghost use Rattle.bridge.specs.Fit.{workOf, Holds};
 ghost use Rattle.bridge.specs.Ready.{Ready, Sound};
+ghost use Rattle.area.specs.Spare.{Spare};
 ghost use Rattle.statements.specs.Settled.{settleVerdict, After, Settling, settled, Ending, Ended};
 use rules::Answer;
 use rules::Refusal;
@@ -47,20 +49,20 @@ fn is_enforced(schema: &[u8], inside: bool, kept: [i64; 32]) -> bool
 }
 
 // Writes the kept numbers of an accepted statement; outside a transaction the journal is then emptied.
-fn write_kept(schema: &[u8], area: &mut [i64], kept: [i64; 32])
-    requires { ⌜ Ready (now schema) (now area) ⌝ }
+fn write_kept(schema: &[u8], area: &mut [i64], kept: [i64; 32], clean: bool)
+    requires { ⌜ Ready (now schema) (now area) × Spare clean (schemaOf (now schema)) (now area) ⌝ }
     ensures { λ _. ⌜ Holds (schemaOf (now (schema .entry))) (now (area .exit)) (afterStatement (workOf (schemaOf (now (schema .entry))) (now (area .entry))) kept (view (schemaOf (now (schema .entry))) (now (area .entry)))) ⌝ }
 {
     words::put_numbers(area, 4, kept);
     if 1 <= words::nat_at(area, 0) {
         return;
     }
-    area::empty_journal(schema, area);
+    area::empty_journal(schema, area, clean);
 }
 
 // Moves the kept numbers by the tally; refused by 19 or 20, writes nothing.
-fn settle(schema: &[u8], area: &mut [i64], tally: [i64; 32]) -> Verdict
-    requires { ⌜ Settling (now schema) (now area) tally ⌝ }
+fn settle(schema: &[u8], area: &mut [i64], tally: [i64; 32], clean: bool) -> Verdict
+    requires { ⌜ Settling (now schema) (now area) tally × Spare clean (schemaOf (now schema)) (now area) ⌝ }
     ensures { λ o. ⌜ (o ≡ settleVerdict (schemaOf (now (schema .entry))) (inTransaction (view (schemaOf (now (schema .entry))) (now (area .entry)) .levels)) (plus (view (schemaOf (now (schema .entry))) (now (area .entry)) .kept) tally)) × After (schemaOf (now (schema .entry))) o (plus (view (schemaOf (now (schema .entry))) (now (area .entry)) .kept) tally) (now (area .entry)) (now (area .exit)) ⌝ }
 {
     let before = words::numbers_at(area, 4);
@@ -72,19 +74,19 @@ fn settle(schema: &[u8], area: &mut [i64], tally: [i64; 32]) -> Verdict
     if !is_enforced(schema, inside, kept) {
         return Verdict::Fail(Refusal::OrphansLeft);
     }
-    write_kept(schema, area, kept);
+    write_kept(schema, area, kept, clean);
     Verdict::Pass
 }
 
 // Settles a statement that began at the journal use `used`, or puts it back; answers the records written and the tally's sum.
-fn conclude(schema: &[u8], area: &mut [i64], tally: [i64; 32], used: usize) -> Answer
-    requires { ⌜ Ending (now schema) (now area) tally used ⌝ }
+fn conclude(schema: &[u8], area: &mut [i64], tally: [i64; 32], used: usize, clean: bool) -> Answer
+    requires { ⌜ Ending (now schema) (now area) tally used × Spare clean (schemaOf (now schema)) (now area) ⌝ }
     ensures { λ x. ⌜ Ended (schemaOf (now (schema .entry))) (settled (schemaOf (now (schema .entry))) tally (now (area .entry))) used tally x (now (area .entry)) (now (area .exit)) ⌝ }
 {
     let changed = words::nat_at(area, 2) - used;
-    match settle(schema, area, tally) {
+    match settle(schema, area, tally, clean) {
         Verdict::Fail(c) => {
-            area::put_back(schema, area, used);
+            area::put_back(schema, area, used, clean);
             Answer::Refused(c)
         }
         Verdict::Pass => Answer::Done(changed, sums::sum_of(tally)),
@@ -92,17 +94,24 @@ fn conclude(schema: &[u8], area: &mut [i64], tally: [i64; 32], used: usize) -> A
 }
 
 // Changes row r of table t to an image, as a statement: with its actions, settled at its end.
-pub fn change_row(schema: &[u8], area: &mut [i64], t: usize, r: usize, image: [i64; 9]) -> Answer
-    requires { ⌜ Sound (now schema) (now area) × ((t < length (schemaOf (now schema) .tables)) × (r < tableOf (schemaOf (now schema)) t .rows)) ⌝ }
+pub fn change_row(
+    schema: &[u8],
+    area: &mut [i64],
+    t: usize,
+    r: usize,
+    image: [i64; 9],
+    clean: bool,
+) -> Answer
+    requires { ⌜ Sound (now schema) (now area) × ((t < length (schemaOf (now schema) .tables)) × ((r < tableOf (schemaOf (now schema)) t .rows) × Spare clean (schemaOf (now schema)) (now area))) ⌝ }
     ensures { λ a. ⌜ (a, now (area .exit)) ≡ onWords (statement (schemaOf (now (schema .entry))) (change 16 (schemaOf (now (schema .entry))) t r image) (view (schemaOf (now (schema .entry))) (now (area .entry)))) ⌝ }
 {
     let used = words::nat_at(area, 2);
     let mut tally = [0i64; 32];
     match changes::row_change(schema, area, &mut tally, t, r, image, 16) {
         Verdict::Fail(c) => {
-            area::put_back(schema, area, used);
+            area::put_back(schema, area, used, clean);
             Answer::Refused(c)
         }
-        Verdict::Pass => conclude(schema, area, tally, used),
+        Verdict::Pass => conclude(schema, area, tally, used, clean),
     }
 }

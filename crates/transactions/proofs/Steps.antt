@@ -170,6 +170,10 @@ module _ {s : Schema} {a a₁ a₂ : List ℤ} (f : Fit s a) (e₁ : Closed (nat
       let h : Holds s a₁ (close (natOf (getD a 0 𝟘)) (view s a)) = then-close (holds-view f) (natOf (getD a 0 𝟘)) (omega arith) e₁ in
       then-opener (subst (λ m. Holds s a₁ (close m (view s a))) c h) 0 e₂
 
+  pub end-work : workOf s a₂ ≡ workOf s a
+  unfolding close workOf
+  end-work = ap (λ (c : Book). c .work) (end-mid .is)
+
   pub end-holds : {a₃ : List ℤ} → (workOf s a₃ ≡ emptied (workOf s a₂)) × Keeps s a₂ a₃ → Holds s a₃ (ended (view s a .kept) (view s a .work) (view s a))
   unfolding close
   end-holds {a₃} e₃ =
@@ -248,6 +252,10 @@ module _ {s : Schema} {a : List ℤ} (f : Fit s a) (some : 0 < length (view s a 
     module _ {a₂ : List ℤ} (e₂ : a₂ ≡ sets a₁ 4 (take 32 (drop (37 + 0 * 33) a₁))) where
       pub abort-loaded : Holds s a₂ (withKept (take 32 (drop 37 a₁)) (withWork (undoTo 0 (view s a .work)) (view s a)))
       abort-loaded = then-kept abort-mid (take 32 (drop 37 a₁)) (length-take-le 32 (drop 37 a₁) (rw length-drop (omega (arith, area-long (abort-mid .fit))))) e₂
+
+      pub loaded-work : workOf s a₂ ≡ undoTo 0 (workOf s a)
+      unfolding workOf
+      loaded-work = ap (λ (c : Book). c .work) (abort-loaded .is)
 
       pub abort-holds : {a₃ : List ℤ} → Holds s a₃ (ended (view s a₂ .kept) (view s a₂ .work) (view s a₂)) → Holds s a₃ (abort (view s a))
       unfolding abort ended

@@ -1,4 +1,5 @@
 // Transactions and savepoints: begin, savepoint, release, rollback to a level, rollback, commit.
+// `clean` says that every journal word past the records in use is known to be zero.
 ghost use mathlib.Core.Path.{_≡_};
 ghost use Prim.Native.Nat.{_+_, _*_, _-_, _≤_, _<_};
 ghost use lib.IntN.{pos};
@@ -11,10 +12,11 @@ ghost use Rattle.rules.specs.Book;
 ghost use Rattle.rules.specs.Calls;
 ghost use Rattle.rules.specs.State;
 ghost use Rattle.rules.specs.Step;
-ghost use Rattle.rules.specs.Area.{view, words, onWords};
+ghost use Rattle.rules.specs.Area.{view, onWords};
 ghost use Rattle.bridge.specs.Fit.{Holds};
 ghost use Rattle.bridge.specs.Ready.{Ready, Sound};
 ghost use Rattle.sums.specs.Small.{Small};
+ghost use Rattle.area.specs.Spare.{Spare};
 use rules::Answer;
 use rules::Refusal;
 
@@ -65,38 +67,38 @@ pub fn savepoint(schema: &[u8], area: &mut [i64]) -> Answer
 }
 
 // Ends the transaction: every level closes, and the journal is emptied.
-fn end(schema: &[u8], area: &mut [i64])
-    requires { ⌜ Ready (now schema) (now area) ⌝ }
+fn end(schema: &[u8], area: &mut [i64], clean: bool)
+    requires { ⌜ Ready (now schema) (now area) × Spare clean (schemaOf (now schema)) (now area) ⌝ }
     ensures { λ _. ⌜ Holds (schemaOf (now (schema .entry))) (now (area .exit)) (Book.ended (view (schemaOf (now (schema .entry))) (now (area .entry)) .kept) (view (schemaOf (now (schema .entry))) (now (area .entry)) .work) (view (schemaOf (now (schema .entry))) (now (area .entry)))) ⌝ }
 {
     let n = words::nat_at(area, 0);
     levels::close_levels(area, n);
     area[1] = 0;
-    area::empty_journal(schema, area);
+    area::empty_journal(schema, area, clean);
 }
 
 // Commits, unless a kept number is not zero.
-fn commit_now(schema: &[u8], area: &mut [i64]) -> Answer
-    requires { ⌜ Ready (now schema) (now area) ⌝ }
+fn commit_now(schema: &[u8], area: &mut [i64], clean: bool) -> Answer
+    requires { ⌜ Ready (now schema) (now area) × Spare clean (schemaOf (now schema)) (now area) ⌝ }
     ensures { λ r. ⌜ (r, now (area .exit)) ≡ onWords (Step.committed (view (schemaOf (now (schema .entry))) (now (area .entry)))) ⌝ }
 {
     let kept = words::numbers_at(area, 4);
     if !sums::all_zero(kept) {
         return Answer::Refused(Refusal::CommitWithOrphans);
     }
-    end(schema, area);
+    end(schema, area, clean);
     Answer::Done(0, 0)
 }
 
 // Kind 9: commit.
-pub fn commit(schema: &[u8], area: &mut [i64]) -> Answer
-    requires { ⌜ Ready (now schema) (now area) ⌝ }
+pub fn commit(schema: &[u8], area: &mut [i64], clean: bool) -> Answer
+    requires { ⌜ Ready (now schema) (now area) × Spare clean (schemaOf (now schema)) (now area) ⌝ }
     ensures { λ r. ⌜ (r, now (area .exit)) ≡ onWords (Step.act (schemaOf (now (schema .entry))) Calls.commit (view (schemaOf (now (schema .entry))) (now (area .entry)))) ⌝ }
 {
     if words::nat_at(area, 0) == 0 {
         return Answer::Refused(Refusal::LevelState);
     }
-    commit_now(schema, area)
+    commit_now(schema, area, clean)
 }
 
 // Whether level a is open, and is not level 1 opened by begin.
@@ -110,15 +112,15 @@ fn is_open(schema: &[u8], area: &[i64], a: usize) -> bool
 }
 
 // Kind 6: release of level a; of level 1 opened by a savepoint, a commit.
-pub fn release(schema: &[u8], area: &mut [i64], a: usize) -> Answer
-    requires { ⌜ Ready (now schema) (now area) × (1 ≤ a) ⌝ }
+pub fn release(schema: &[u8], area: &mut [i64], a: usize, clean: bool) -> Answer
+    requires { ⌜ Ready (now schema) (now area) × ((1 ≤ a) × Spare clean (schemaOf (now schema)) (now area)) ⌝ }
     ensures { λ r. ⌜ (r, now (area .exit)) ≡ onWords (Step.act (schemaOf (now (schema .entry))) (Calls.release a) (view (schemaOf (now (schema .entry))) (now (area .entry)))) ⌝ }
 {
     if !is_open(schema, area, a) {
         return Answer::Refused(Refusal::LevelState);
     }
     if a == 1 {
-        return commit_now(schema, area);
+        return commit_now(schema, area, clean);
     }
     let n = words::nat_at(area, 0);
     levels::close_levels(area, n + 1 - a);
@@ -163,18 +165,18 @@ pub fn rollback_to(schema: &[u8], area: &mut [i64], a: usize) -> Answer
 }
 
 // Undoes the whole transaction and ends it.
-fn abort(schema: &[u8], area: &mut [i64])
-    requires { ⌜ Sound (now schema) (now area) × (0 < length (view (schemaOf (now schema)) (now area) .levels)) ⌝ }
+fn abort(schema: &[u8], area: &mut [i64], clean: bool)
+    requires { ⌜ Sound (now schema) (now area) × ((0 < length (view (schemaOf (now schema)) (now area) .levels)) × Spare clean (schemaOf (now schema)) (now area)) ⌝ }
     ensures { λ _. ⌜ Holds (schemaOf (now (schema .entry))) (now (area .exit)) (Book.abort (view (schemaOf (now (schema .entry))) (now (area .entry)))) ⌝ }
 {
     area::undo_to(schema, area, 0);
     levels::load_kept(area, 0);
-    end(schema, area);
+    end(schema, area, clean);
 }
 
 // Kind 8: rollback of the transaction.
-pub fn rollback(schema: &[u8], area: &mut [i64]) -> Answer
-    requires { ⌜ Sound (now schema) (now area) ⌝ }
+pub fn rollback(schema: &[u8], area: &mut [i64], clean: bool) -> Answer
+    requires { ⌜ Sound (now schema) (now area) × Spare clean (schemaOf (now schema)) (now area) ⌝ }
     ensures { λ r. ⌜ (r, now (area .exit)) ≡ onWords (Step.act (schemaOf (now (schema .entry))) Calls.rollback (view (schemaOf (now (schema .entry))) (now (area .entry)))) ⌝ }
 {
     if words::nat_at(area, 0) == 0 {
@@ -182,6 +184,6 @@ pub fn rollback(schema: &[u8], area: &mut [i64]) -> Answer
     }
     let used = words::nat_at(area, 2);
     let net = net_to(area, 0);
-    abort(schema, area);
+    abort(schema, area, clean);
     Answer::Done(used, net)
 }

@@ -15,11 +15,11 @@ sub-if1 c = search needs
 words-at-requires : tie.Need-words-at-requires
 words-at-requires c κs = search needs
 
-slice-aggregate-call : tie.Need-slice-aggregate-call
-slice-aggregate-call c = search needs
+slice-aggregate-next : tie.Need-slice-aggregate-next
+slice-aggregate-next c = search needs
 
-call-requires : tie.Need-call-requires
-call-requires c κs = search needs
+next-requires : tie.Need-next-requires
+next-requires c κs = search needs
 
 same-length : tie.Need-same-length
 same-length c = search needs
@@ -28,19 +28,19 @@ returns : tie.Need-returns
 returns c =
     let a = c .before .before .before .before .before .before .before .before .args in
     let words = c .before .before .before .before .words-at .ensures ∙ call-whole (a .bytes .now) (a .i) (omega arith) in
-    c .before .call .ensures ∙ ap (λ w. callOn (a .schema .now) w (a .area .now)) words
+    c .before .next .ensures ∙ ap (λ w. callOn (a .schema .now) w (a .area .now)) words
 
-sub-call : tie.Need-sub-call
-sub-call c = search needs
+sub-next : tie.Need-sub-next
+sub-next c = search needs
 
-part-call-start : tie.Need-part-call-start
-part-call-start c = search needs
+part-next-start : tie.Need-part-next-start
+part-next-start c = search needs
 
-part-call-end : tie.Need-part-call-end
-part-call-end c = search needs
+part-next-end : tie.Need-part-next-end
+part-next-end c = search needs
 
-call-requires-2 : tie.Need-call-requires-2
-call-requires-2 c κs = search needs
+next-requires-2 : tie.Need-next-requires-2
+next-requires-2 c κs = search needs
 
 same-length-2 : tie.Need-same-length-2
 same-length-2 c = search needs
@@ -48,7 +48,7 @@ same-length-2 c = search needs
 returns-2 : tie.Need-returns-2
 returns-2 c =
     let a = c .before .before .before .before .before .before .before .before .args in
-    c .before .call2 .ensures ∙ ap (λ w. callOn (a .schema .now) w (a .area .now)) (call-short (a .bytes .now) (a .i) (omega arith))
+    c .before .next2 .ensures ∙ ap (λ w. callOn (a .schema .now) w (a .area .now)) (call-short (a .bytes .now) (a .i) (omega arith))
 
 pub call-at-spec : {M : Type 1} → statement M
 call-at-spec =
@@ -57,13 +57,13 @@ call-at-spec =
     mul-at
     sub-if1
     words-at-requires
-    slice-aggregate-call
-    call-requires
+    slice-aggregate-next
+    next-requires
     same-length
     returns
-    sub-call
-    part-call-start
-    part-call-end
-    call-requires-2
+    sub-next
+    part-next-start
+    part-next-end
+    next-requires-2
     same-length-2
     returns-2)

@@ -1,4 +1,5 @@
 use mathlib.Core.Path.{sym, _∙_}
+use mathlib.Core.Bool.{false≢true}
 use borrow.Author.Tests.{not-true, not-false}
 use borrow.Author.Needs.{needs}
 use Rattle.bridge.proofs.SoundLaws.{sound-area}
@@ -60,7 +61,7 @@ carry-out-requires c κs =
     let area-length = c .before .before .before .before .before .before .before .before .area-length in
     let if1 = c .before .before .before .before .before .before .before .if1 in
     let read-call = c .before .before .before .before .before .before .read-call in
-    (sound-area (s .args .schema .now) (s .args .area .now) (s .pre) (if1 .left ∙ area-length .ensures .0) (sym (is-undamaged .ensures) ∙ not-false _ (if3 .left)), read-call .ensures)
+    (sound-area (s .args .schema .now) (s .args .area .now) (s .pre) (if1 .left ∙ area-length .ensures .0) (sym (is-undamaged .ensures) ∙ not-false _ (if3 .left)), (read-call .ensures, λ e. absurd (false≢true e)))
 
 same-length-2 : tie.Need-same-length-2
 same-length-2 c = search needs

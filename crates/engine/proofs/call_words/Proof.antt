@@ -1,5 +1,5 @@
 use borrow.Author.Needs.{needs}
-use Rattle.engine.proofs.RunLaws.{answer-few, answer-is}
+use Rattle.engine.proofs.CallLaws.{answer-few, answer-is}
 use Rattle.engine.proofs.call_words.Statement.{statement}
 use Rattle.engine.proofs.call_words.Tie as tie
 

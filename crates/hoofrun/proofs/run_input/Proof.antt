@@ -2,19 +2,20 @@ use mathlib.Core.Path.{_≡_, refl}
 use native.Mathlib.Omega.{arith}
 use lib.ListN.{length}
 use borrow.Author.Needs.{needs}
+use Rattle.laws.specs.Reached.{Reached}
 use Rattle.call_lines.proofs.RunLaws.{count-rises}
 use Rattle.hoofrun.proofs.run_input.Statement.{statement}
 use Rattle.hoofrun.proofs.run_input.Tie as tie
 
 abbrev Inv-loop : tie.InvT-loop
 Inv-loop schema area₀ input₀ out₀ full piece₀ left₀ area input out piece left =
-    (length area ≡ length area₀) × (length input ≡ length input₀) × (length out ≡ length out₀)
+    (length area ≡ length area₀) × (length input ≡ length input₀) × (length out ≡ length out₀) × Reached schema area
 
 abbrev μ-loop : tie.MeasureT-loop
 μ-loop schema area₀ input₀ out₀ full piece₀ left₀ area input out piece left = left
 
 loop-holds : tie.Need-loop-holds Inv-loop μ-loop
-loop-holds c = (refl, refl, refl)
+loop-holds c = (refl, refl, refl, c .before .before .before .pre .0)
 
 run-piece-requires : tie.Need-run-piece-requires Inv-loop μ-loop
 run-piece-requires c κs =
@@ -22,7 +23,7 @@ run-piece-requires c κs =
     let start = at-loop .before .before .before .before in
     let l = at-loop .loop in
     let few = count-rises (length (l .input)) (length (start .args .input .now)) (omega (arith, l .inv .1)) in
-    omega (arith, few, l .inv .2)
+    (l .inv .3, omega (arith, few, l .inv .2))
 
 sub-left : tie.Need-sub-left Inv-loop μ-loop
 sub-left c = search needs

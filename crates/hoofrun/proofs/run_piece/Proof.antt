@@ -28,7 +28,7 @@ run-calls-requires c κs =
     let read = got .read-full in
     let piece = take (read .result - 0) (read .last .1 .0) in
     let few = count-rises (length piece) (length (start .args .input .now)) (simp length-take (omega arith)) in
-    omega (arith, few)
+    (start .pre .0, omega (arith, few))
 
 print-requires : tie.Need-print-requires
 print-requires c κs = search needs
@@ -52,9 +52,11 @@ returns c =
     let n = got .read-full .result in
     let input = got .read-full .last .1 .0 in
     let all : n - 0 ≡ n = omega arith in
-    let begun : Progress = record { tally = a .tally; used = 0 } in
-    ran-after s (take (n - 0) input) (a .area .now) begun (a .out .now) (done .run-calls .ensures .0)
-    ∙ ap (λ m. after s (take m input) (a .area .now) (a .tally)) all
+    let begun : Progress = record { tally = a .tally; used = 0 } in (
+      ran-after s (take (n - 0) input) (a .area .now) begun (a .out .now) (done .run-calls .ensures .0)
+          ∙ ap (λ m. after s (take m input) (a .area .now) (a .tally)) all,
+      done .run-calls .ensures .2,
+    )
 
 pub run-piece-spec : {M : Type 1} → statement M
 run-piece-spec =

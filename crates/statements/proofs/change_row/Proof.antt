@@ -14,7 +14,7 @@ nat-at-requires c κs = omega (arith, area-long (c .before .before .pre .0 .read
 row-change-requires : tie.Need-row-change-requires
 row-change-requires c κs =
     let s = c .before .before .before .before .before in
-    record { tallied = tally-begins (s .args .schema .now) (s .pre .0 .ready); table = s .pre .1 .0; row = s .pre .1 .1 }
+    record { tallied = tally-begins (s .args .schema .now) (s .pre .0 .ready); table = s .pre .1 .0; row = s .pre .1 .1 .0 }
 
 enum-known-c : tie.Need-enum-known-c
 enum-known-c c = search needs
@@ -24,7 +24,7 @@ put-back-requires c κs =
     let nat-at = c .before .before .before .before .before .before .before .before .nat-at in
     let row-change = c .before .before .before .before .before .row-change in
     let s = c .before .before .before .before .before .before .before .before .before .before .before in
-    ends.changed-undoable (s .args .schema .now) (s .pre .0) (change 16 (schemaOf (s .args .schema .now)) (s .args .t) (s .args .r) (s .args .image)) (ends.change-fine (s .args .schema .now) (s .pre .0) (s .args .t) (s .args .r) (s .args .image) (s .pre .1 .1)) (row-change .result) (row-change .ensures) (nat-at .ensures)
+    ends.changed-undoable (s .args .schema .now) (s .pre .0) (change 16 (schemaOf (s .args .schema .now)) (s .args .t) (s .args .r) (s .args .image)) (ends.change-fine (s .args .schema .now) (s .pre .0) (s .args .t) (s .args .r) (s .args .image) (s .pre .1 .1 .0)) (row-change .result) (row-change .ensures) (nat-at .ensures) (s .pre .1 .1 .1)
 
 enum-told : tie.Need-enum-told
 enum-told c = search needs
@@ -34,7 +34,7 @@ conclude-requires c κs =
     let nat-at = c .before .before .before .before .before .before .before .nat-at in
     let row-change = c .before .before .before .before .row-change in
     let s = c .before .before .before .before .before .before .before .before .before .before in
-    ends.changed-ending (s .args .schema .now) (s .pre .0) (change 16 (schemaOf (s .args .schema .now)) (s .args .t) (s .args .r) (s .args .image)) (ends.change-fine (s .args .schema .now) (s .pre .0) (s .args .t) (s .args .r) (s .args .image) (s .pre .1 .1)) (row-change .result) (row-change .ensures) (nat-at .ensures)
+    ends.changed-ending (s .args .schema .now) (s .pre .0) (change 16 (schemaOf (s .args .schema .now)) (s .args .t) (s .args .r) (s .args .image)) (ends.change-fine (s .args .schema .now) (s .pre .0) (s .args .t) (s .args .r) (s .args .image) (s .pre .1 .1 .0)) (row-change .result) (row-change .ensures) (nat-at .ensures) (s .pre .1 .1 .1)
 
 same-length : tie.Need-same-length
 same-length c = search needs
@@ -45,7 +45,7 @@ returns c =
     let row-change = c .before .before .before .before .before .before .before .row-change in
     let put-back = c .before .put-back in
     let s = c .before .before .before .before .before .before .before .before .before .before .before .before .before in
-    ends.change-refused (s .args .schema .now) (s .pre .0) (change 16 (schemaOf (s .args .schema .now)) (s .args .t) (s .args .r) (s .args .image)) (ends.change-fine (s .args .schema .now) (s .pre .0) (s .args .t) (s .args .r) (s .args .image) (s .pre .1 .1)) (row-change .result) (row-change .ensures) (nat-at .ensures) _ (c .before .before .before .before .c .given .1) (put-back .ensures)
+    ends.change-refused (s .args .schema .now) (s .pre .0) (change 16 (schemaOf (s .args .schema .now)) (s .args .t) (s .args .r) (s .args .image)) (ends.change-fine (s .args .schema .now) (s .pre .0) (s .args .t) (s .args .r) (s .args .image) (s .pre .1 .1 .0)) (row-change .result) (row-change .ensures) (nat-at .ensures) _ (c .before .before .before .before .c .given .1) (put-back .ensures)
 
 same-length-2 : tie.Need-same-length-2
 same-length-2 c = search needs
@@ -57,7 +57,7 @@ returns-2 c =
     let enum-told = c .before .before .before .enum-told in
     let conclude = c .before .conclude in
     let s = c .before .before .before .before .before .before .before .before .before .before .before .before in
-    ends.change-ended (s .args .schema .now) (s .pre .0) (change 16 (schemaOf (s .args .schema .now)) (s .args .t) (s .args .r) (s .args .image)) (ends.change-fine (s .args .schema .now) (s .pre .0) (s .args .t) (s .args .r) (s .args .image) (s .pre .1 .1)) (row-change .result) (row-change .ensures) (nat-at .ensures) (enum-told .given .1) _ _ (conclude .ensures)
+    ends.change-ended (s .args .schema .now) (s .pre .0) (change 16 (schemaOf (s .args .schema .now)) (s .args .t) (s .args .r) (s .args .image)) (ends.change-fine (s .args .schema .now) (s .pre .0) (s .args .t) (s .args .r) (s .args .image) (s .pre .1 .1 .0)) (row-change .result) (row-change .ensures) (nat-at .ensures) (enum-told .given .1) _ _ (conclude .ensures)
 
 pub change-row-spec : {M : Type 1} → statement M
 change-row-spec =

@@ -15,12 +15,12 @@ use Rattle.statements.proofs.conclude.Statement.{statement}
 use Rattle.statements.proofs.conclude.Tie as tie
 
 nat-at-requires : tie.Need-nat-at-requires
-nat-at-requires c κs = omega (arith, area-long (c .before .before .pre .settling .ready .fit))
+nat-at-requires c κs = omega (arith, area-long (c .before .before .pre .0 .settling .ready .fit))
 
 sub-changed : tie.Need-sub-changed
 sub-changed c =
     let s = c .before .before .before in
-    omega (arith, s .pre .begun, c .nat-at .ensures, use-is (s .pre .settling .ready .fit))
+    omega (arith, s .pre .0 .begun, c .nat-at .ensures, use-is (s .pre .0 .settling .ready .fit))
 
 settle-requires : tie.Need-settle-requires
 settle-requires c κs = search needs
@@ -33,13 +33,13 @@ put-back-requires c κs =
     let settle = c .before .before .before .before .before .settle in
     let s = c .before .before .before .before .before .before .before .before .before .before in
     let sc : Schema = schemaOf (s .args .schema .now) in
-    ends.undoable-same (s .pre) (ends.failed-same sc (plus ((view sc (s .args .area .now)) .kept) (s .args .tally)) (s .args .area .now) (settle .last .1 .0) (c .before .before .c .given .1) (settle .ensures .1))
+    ends.undoable-same (s .pre .0) (s .pre .1) (ends.failed-same sc (plus ((view sc (s .args .area .now)) .kept) (s .args .tally)) (s .args .area .now) (settle .last .1 .0) (c .before .before .c .given .1) (settle .ensures .1))
 
 enum-told : tie.Need-enum-told
 enum-told c = search needs
 
 sum-of-requires : tie.Need-sum-of-requires
-sum-of-requires c κs = small-more {m = 1024} (omega arith) (c .before .before .before .before .before .before .before .before .pre .settling .tally-small)
+sum-of-requires c κs = small-more {m = 1024} (omega arith) (c .before .before .before .before .before .before .before .before .pre .0 .settling .tally-small)
 
 same-length : tie.Need-same-length
 same-length c = search needs
@@ -62,7 +62,7 @@ returns-2 c =
     let enum-told = c .before .enum-told in
     let s = c .before .before .before .before .before .before .before .before .before in
     let sc : Schema = schemaOf (s .args .schema .now) in
-    ends.ended-pass sc (s .args .used) (s .args .tally) (s .args .area .now) _ _ _ (sym (enum-told .given .1) ∙ settle .ensures .0) (ap (λ (n : ℕ). n - s .args .used) (nat-at .ensures ∙ sym (use-is (s .pre .settling .ready .fit)))) (back _ (c .sum-of .ok) ∙ c .sum-of .ensures) (ends.passed-holds sc (plus ((view sc (s .args .area .now)) .kept) (s .args .tally)) (s .args .area .now) (settle .last .1 .0) (enum-told .given .1) (settle .ensures .1))
+    ends.ended-pass sc (s .args .used) (s .args .tally) (s .args .area .now) _ _ _ (sym (enum-told .given .1) ∙ settle .ensures .0) (ap (λ (n : ℕ). n - s .args .used) (nat-at .ensures ∙ sym (use-is (s .pre .0 .settling .ready .fit)))) (back _ (c .sum-of .ok) ∙ c .sum-of .ensures) (ends.passed-holds sc (plus ((view sc (s .args .area .now)) .kept) (s .args .tally)) (s .args .area .now) (settle .last .1 .0) (enum-told .given .1) (settle .ensures .1))
 
 pub conclude-spec : {M : Type 1} → statement M
 conclude-spec =

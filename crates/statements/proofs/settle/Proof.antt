@@ -8,12 +8,12 @@ use Rattle.statements.proofs.settle.Statement.{statement}
 use Rattle.statements.proofs.settle.Tie as tie
 
 numbers-at-requires : tie.Need-numbers-at-requires
-numbers-at-requires c κs = omega (arith, area-long (c .before .before .pre .ready .fit))
+numbers-at-requires c κs = omega (arith, area-long (c .before .before .pre .0 .ready .fit))
 
 plus-of-requires : tie.Need-plus-of-requires
 plus-of-requires c κs =
     let s = c .before .before .before in
-    (small-more {m = 1024} (omega arith) (rw (c .numbers-at .ensures) (s .pre .kept-small)), small-more {m = 1024} (omega arith) (s .pre .tally-small))
+    (small-more {m = 1024} (omega arith) (rw (c .numbers-at .ensures) (s .pre .0 .kept-small)), small-more {m = 1024} (omega arith) (s .pre .0 .tally-small))
 
 sub-kept-in-range : tie.Need-sub-kept-in-range
 sub-kept-in-range c = search needs
@@ -36,10 +36,10 @@ returns c =
     let plus-of = c .before .before .before .before .plus-of in
     let kept-in-range = c .before .kept-in-range in
     let s = c .before .before .before .before .before .before .before .before in
-    ends.settle-19 (s .pre .ready .fit) (s .args .tally) (numbers-at .ensures) (plus-of .ensures) (search needs) (kept-in-range .ensures) (not-true _ (c .if1 .taken))
+    ends.settle-19 (s .pre .0 .ready .fit) (s .args .tally) (numbers-at .ensures) (plus-of .ensures) (search needs) (kept-in-range .ensures) (not-true _ (c .if1 .taken))
 
 nat-at-requires : tie.Need-nat-at-requires
-nat-at-requires c κs = omega (arith, area-long (c .before .before .before .before .before .before .before .before .before .pre .ready .fit))
+nat-at-requires c κs = omega (arith, area-long (c .before .before .before .before .before .before .before .before .before .pre .0 .ready .fit))
 
 is-enforced-requires : tie.Need-is-enforced-requires
 is-enforced-requires c κs = search needs
@@ -56,7 +56,7 @@ returns-2 c =
     let nat-at = c .before .before .nat-at in
     let is-enforced = c .before .is-enforced in
     let s = c .before .before .before .before .before .before .before .before .before .before .before .before in
-    ends.settle-20 (s .pre .ready .fit) (s .args .tally) (numbers-at .ensures) (plus-of .ensures) (search needs) (kept-in-range .ensures) (nat-at .ensures) (not-false _ (if1 .left)) (is-enforced .ensures) (not-true _ (c .if2 .taken))
+    ends.settle-20 (s .pre .0 .ready .fit) (s .args .tally) (numbers-at .ensures) (plus-of .ensures) (search needs) (kept-in-range .ensures) (nat-at .ensures) (not-false _ (if1 .left)) (is-enforced .ensures) (not-true _ (c .if2 .taken))
 
 write-kept-requires : tie.Need-write-kept-requires
 write-kept-requires c κs = search needs
@@ -75,7 +75,7 @@ returns-3 c =
     let if2 = c .before .before .before .if2 in
     let write-kept = c .before .write-kept in
     let s = c .before .before .before .before .before .before .before .before .before .before .before .before .before .before .before in
-    ends.settle-pass (s .pre .ready .fit) (s .args .tally) (numbers-at .ensures) (plus-of .ensures) (search needs) (kept-in-range .ensures) (nat-at .ensures) (not-false _ (if1 .left)) (is-enforced .ensures) (not-false _ (if2 .left)) (write-kept .ensures)
+    ends.settle-pass (s .pre .0 .ready .fit) (s .args .tally) (numbers-at .ensures) (plus-of .ensures) (search needs) (kept-in-range .ensures) (nat-at .ensures) (not-false _ (if1 .left)) (is-enforced .ensures) (not-false _ (if2 .left)) (write-kept .ensures)
 
 pub settle-spec : {M : Type 1} → statement M
 settle-spec =

@@ -9,7 +9,7 @@ use Rattle.transactions.proofs.commit.Statement.{statement}
 use Rattle.transactions.proofs.commit.Tie as tie
 
 nat-at-requires : tie.Need-nat-at-requires
-nat-at-requires c κs = omega (arith, step.area-long (c .before .before .pre .fit))
+nat-at-requires c κs = omega (arith, step.area-long (c .before .before .pre .0 .fit))
 
 same-length : tie.Need-same-length
 same-length c = search needs
@@ -18,7 +18,7 @@ returns : tie.Need-returns
 returns c =
     let s = c .before .before .before .before in
     let sc = schemaOf (s .args .schema .now) in
-    turn.turn-same (s .pre .fit) (turn.commit-outside sc (view sc (s .args .area .now)) (sym (step.count-is (s .pre .fit) (c .before .nat-at .ensures)) ∙ c .if1 .taken))
+    turn.turn-same (s .pre .0 .fit) (turn.commit-outside sc (view sc (s .args .area .now)) (sym (step.count-is (s .pre .0 .fit) (c .before .nat-at .ensures)) ∙ c .if1 .taken))
 
 commit-now-requires : tie.Need-commit-now-requires
 commit-now-requires c κs = search needs
@@ -33,7 +33,7 @@ returns-2 c =
     let nat-at = c .before .before .before .before .nat-at in
     let if1 = c .before .before .before .if1 in
     c .before .commit-now .ensures
-    ∙ sym (ap onWords (turn.commit-inside sc (view sc (s .args .area .now)) (step.positive _ (λ z. if1 .left (step.count-is (s .pre .fit) (nat-at .ensures) ∙ z)))))
+    ∙ sym (ap onWords (turn.commit-inside sc (view sc (s .args .area .now)) (step.positive _ (λ z. if1 .left (step.count-is (s .pre .0 .fit) (nat-at .ensures) ∙ z)))))
 
 pub commit-spec : {M : Type 1} → statement M
 commit-spec =

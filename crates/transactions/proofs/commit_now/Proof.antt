@@ -11,7 +11,7 @@ use Rattle.transactions.proofs.commit_now.Statement.{statement}
 use Rattle.transactions.proofs.commit_now.Tie as tie
 
 numbers-at-requires : tie.Need-numbers-at-requires
-numbers-at-requires c κs = omega (arith, step.area-long (c .before .before .pre .fit))
+numbers-at-requires c κs = omega (arith, step.area-long (c .before .before .pre .0 .fit))
 
 all-zero-requires : tie.Need-all-zero-requires
 all-zero-requires c κs = search needs
@@ -26,7 +26,7 @@ returns c =
     let s = c .before .before .before .before .before in
     let sc = schemaOf (s .args .schema .now) in
     let a = s .args .area .now in
-    turn.turn-same (s .pre .fit) (turn.commit-refused sc (view sc a) (ap allZero (step.kept-at sc a ∙ sym (numbers-at .ensures)) ∙ sym (all-zero .ensures) ∙ not-true _ (c .if1 .taken)))
+    turn.turn-same (s .pre .0 .fit) (turn.commit-refused sc (view sc a) (ap allZero (step.kept-at sc a ∙ sym (numbers-at .ensures)) ∙ sym (all-zero .ensures) ∙ not-true _ (c .if1 .taken)))
 
 end-requires : tie.Need-end-requires
 end-requires c κs = search needs

@@ -56,7 +56,7 @@ close-levels-requires c κs =
     let s = c .before .before .before .before .before .before .before .before in
     let is-open = c .before .before .before .before .before .is-open in
     let if1 = c .before .before .before .before .if1 in
-    (step.area-long (s .pre .0 .fit), (omega (arith, nat-at .ensures, s .pre .1, step.level-below (s .pre .0 .fit) (s .args .a) (sym (is-open .ensures) ∙ not-false _ (if1 .left))), step.levels-at-most (s .pre .0 .fit)))
+    (step.area-long (s .pre .0 .fit), (omega (arith, nat-at .ensures, s .pre .1 .0, step.level-below (s .pre .0 .fit) (s .args .a) (sym (is-open .ensures) ∙ not-false _ (if1 .left))), step.levels-at-most (s .pre .0 .fit)))
 
 same-length-3 : tie.Need-same-length-3
 same-length-3 c = search needs
@@ -70,7 +70,7 @@ returns-3 c =
     let if1 = c .before .before .before .before .before .before .if1 in
     let if2 = c .before .before .before .before .before .if2 in
     let nat-at = c .before .before .before .nat-at in
-    turn.turn-words (step.release-holds (s .pre .0 .fit) (nat-at .result) (s .args .a) (nat-at .ensures) (s .pre .1) (omega (arith, step.count-is (s .pre .0 .fit) (nat-at .ensures), step.level-below (s .pre .0 .fit) (s .args .a) (sym (is-open .ensures) ∙ not-false _ (if1 .left)))) (close-levels .ensures)) (turn.release-closes sc (view sc (s .args .area .now)) (s .args .a) (sym (is-open .ensures) ∙ not-false _ (if1 .left)) (ne-eqb _ 1 (if2 .left)))
+    turn.turn-words (step.release-holds (s .pre .0 .fit) (nat-at .result) (s .args .a) (nat-at .ensures) (s .pre .1 .0) (omega (arith, step.count-is (s .pre .0 .fit) (nat-at .ensures), step.level-below (s .pre .0 .fit) (s .args .a) (sym (is-open .ensures) ∙ not-false _ (if1 .left)))) (close-levels .ensures)) (turn.release-closes sc (view sc (s .args .area .now)) (s .args .a) (sym (is-open .ensures) ∙ not-false _ (if1 .left)) (ne-eqb _ 1 (if2 .left)))
 
 pub release-spec : {M : Type 1} → statement M
 release-spec =

@@ -1,0 +1,93 @@
+-- Statements, and which call a request is.
+-- Assumes nothing.
+use mathlib.Core.Path.{_≡_, refl, sym, ap, _∙_}
+use mathlib.Core.Bool.{Bool, true, false, not}
+use mathlib.Core.List.{List}
+use Prim.Native.Nat.{ℕ, _≤_, _<_}
+use lib.IntN.{ℤ}
+use lib.ListN.{length}
+use Rattle.schema.specs.declared.SchemaAnswer.the-variants.{Malformed}
+use Rattle.schema.specs.Records.{tableOf}
+use Rattle.schema.specs.Fields.{schemaOf}
+use Rattle.rules.specs.declared.Answer.the-variants.{Refused}
+use Rattle.rules.specs.declared.Refusal.the-variants.{BadCall, RowState}
+use Rattle.rules.specs.Rows.{Row, Tables, rowAt, image, live, liveImage, deletedImage}
+use Rattle.rules.specs.Calls.{parse, insert, update, delete}
+use Rattle.rules.specs.Change.{change}
+use Rattle.rules.specs.Statement.{check, statement, rowStatement}
+use Rattle.rules.specs.Step.{act}
+use Rattle.rules.specs.Area.{AreaTurn, view, onWords}
+use Rattle.bridge.specs.Fit.{Fit, workOf}
+use Rattle.bridge.specs.Ready.{Sound}
+use Rattle.bridge.proofs.HoldLaws.{turn-same}
+use Rattle.bridge.proofs.KeyLaws.{live-same, get-padded}
+use Rattle.call_form.specs.declared.Request.{Request}
+use Rattle.call_form.specs.declared.Request.the-variants as request
+use Rattle.call_form.specs.Requests.{callOf, judged}
+use Rattle.call_form.proofs.Requested.{insert-row, update-row, delete-row, release-level, rollback-level}
+use Rattle.calls.specs.RowCall.{RowCall}
+
+-- ---- statements
+module _ (b : List ℕ) (a : List ℤ) (t r : ℕ) (f : Fit (schemaOf b) a) where
+  row-refused : (fits : Bool) (new : Row) → fits ≡ false → (Refused RowState, a) ≡ onWords (rowStatement (schemaOf b) fits t r new (view (schemaOf b) a))
+  unfolding rowStatement check
+  row-refused fits new e = turn-same f (rw e refl)
+
+  row-stated : (fits : Bool) (new : Row) → fits ≡ true → onWords (statement (schemaOf b) (change 16 (schemaOf b) t r new) (view (schemaOf b) a)) ≡ onWords (rowStatement (schemaOf b) fits t r new (view (schemaOf b) a))
+  unfolding rowStatement check
+  row-stated fits new e = rw e refl
+
+  module _ (v : Bool) (e : v ≡ live (rowAt t r (workOf (schemaOf b) a .tabs))) (m : ℕ) (vs : List ℤ) where
+    pub insert-refused : v ≡ true → (Refused RowState, a) ≡ onWords (act (schemaOf b) (insert t r m vs) (view (schemaOf b) a))
+    unfolding act workOf
+    insert-refused h = row-refused _ _ (ap not (sym e ∙ h))
+
+    pub update-refused : v ≡ false → (Refused RowState, a) ≡ onWords (act (schemaOf b) (update t r m vs) (view (schemaOf b) a))
+    unfolding act workOf
+    update-refused h = row-refused _ _ (sym e ∙ h)
+
+    pub delete-refused : v ≡ false → (Refused RowState, a) ≡ onWords (act (schemaOf b) (delete t r) (view (schemaOf b) a))
+    unfolding act workOf
+    delete-refused h = row-refused _ _ (sym e ∙ h)
+
+    module _ (x : AreaTurn) (new : Row) (o : x ≡ onWords (statement (schemaOf b) (change 16 (schemaOf b) t r new) (view (schemaOf b) a))) where
+      pub insert-stated : v ≡ false → (n : ℕ) → n ≡ tableOf (schemaOf b) t .columns → new ≡ liveImage n m vs → x ≡ onWords (act (schemaOf b) (insert t r m vs) (view (schemaOf b) a))
+      unfolding act workOf
+      insert-stated h n w g = o ∙ row-stated _ new (ap not (sym e ∙ h)) ∙ rw (g, w) refl
+
+      pub update-stated : v ≡ true → (n : ℕ) → n ≡ tableOf (schemaOf b) t .columns → new ≡ liveImage n m vs → x ≡ onWords (act (schemaOf b) (update t r m vs) (view (schemaOf b) a))
+      unfolding act workOf
+      update-stated h n w g = o ∙ row-stated _ new (sym e ∙ h) ∙ rw (g, w) refl
+
+      pub delete-stated : v ≡ true → new ≡ deletedImage → x ≡ onWords (act (schemaOf b) (delete t r) (view (schemaOf b) a))
+      unfolding act workOf
+      delete-stated h g = o ∙ row-stated _ new (sym e ∙ h) ∙ rw g refl
+
+-- a row is live where its image is
+pub row-live : (t r : ℕ) (tabs : Tables) {x : Row} → x ≡ image t r tabs → live x ≡ live (rowAt t r tabs)
+unfolding image
+row-live t r tabs e = ap live e ∙ live-same _ _ (get-padded 9 (rowAt t r tabs))
+
+-- ---- dispatch
+module _ (b : List ℕ) (a c : List ℤ) (x : Request) (h : Sound b a) (e : callOf x c ≡ judged (schemaOf b) (parse c)) where
+  read-as : {y : Request} → x ≡ y → callOf y c ≡ judged (schemaOf b) (parse c)
+  read-as q = ap (λ (z : Request). callOf z c) (sym q) ∙ e
+
+  pub insert-call : {t r : ℕ} → x ≡ request.Insert t r → RowCall b a c t r
+  insert-call {t} {r} q = let p = insert-row (schemaOf b) c t r (read-as q) in record { sound = h; table = p .table; row = p .row; size = p .size }
+
+  pub update-call : {t r : ℕ} → x ≡ request.Update t r → RowCall b a c t r
+  update-call {t} {r} q = let p = update-row (schemaOf b) c t r (read-as q) in record { sound = h; table = p .table; row = p .row; size = p .size }
+
+  pub delete-call : {t r : ℕ} → x ≡ request.Delete t r → (t < length (schemaOf b .tables)) × (r < tableOf (schemaOf b) t .rows)
+  delete-call {t} {r} q = let p = delete-row (schemaOf b) c t r (read-as q) in (p .table, p .row)
+
+  pub release-call : {n : ℕ} → x ≡ request.Release n → 1 ≤ n
+  release-call {n} q = release-level (schemaOf b) c n (read-as q) .low
+
+  pub rollback-call : {n : ℕ} → x ≡ request.RollbackTo n → 1 ≤ n
+  rollback-call {n} q = rollback-level (schemaOf b) c n (read-as q) .low
+
+  pub malformed-call : x ≡ request.Malformed → (Refused BadCall, a) ≡ onWords (act (schemaOf b) (callOf x c) (view (schemaOf b) a))
+  unfolding act callOf
+  malformed-call q = turn-same {t = act (schemaOf b) (callOf x c) (view (schemaOf b) a)} (h .ready .fit) (rw q refl)

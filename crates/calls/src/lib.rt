@@ -1,0 +1,92 @@
+// A call that was read and is not refused by 4 or 10: insert, update, delete, and the kinds that transactions has.
+// `clean` says that every journal word past the records in use is known to be zero.
+ghost use mathlib.Core.Path.{_≡_};
+ghost use Prim.Native.Nat.{_<_};
+ghost use lib.IntN.{pos};
+ghost use lib.ListN.{length, getD, drop};
+ghost use Rattle.schema.specs.Records.{tableOf};
+ghost use Rattle.schema.specs.Fields.{schemaOf};
+ghost use Rattle.rules.specs.Rows;
+ghost use Rattle.rules.specs.Values.{natOf};
+ghost use Rattle.rules.specs.Calls;
+ghost use Rattle.rules.specs.Step.{act};
+ghost use Rattle.rules.specs.Area.{view, onWords};
+ghost use Rattle.bridge.specs.Fit.{workOf};
+ghost use Rattle.bridge.specs.Ready.{Sound, Placed};
+ghost use Rattle.area.specs.Spare.{Spare};
+ghost use Rattle.call_form.specs.Requests.{callOf, judged};
+ghost use Rattle.calls.specs.RowCall.{RowCall};
+use call_form::Request;
+use rules::Answer;
+use rules::Refusal;
+
+// Whether row r of table t is live.
+fn is_live_row(schema: &[u8], area: &[i64], t: usize, r: usize) -> bool
+    requires { ⌜ Placed (now schema) (now area) t r ⌝ }
+    ensures { λ x. ⌜ x ≡ Rows.live (Rows.rowAt t r (workOf (schemaOf (now (schema .entry))) (now (area .entry)) .tabs)) ⌝ }
+{
+    let image = area::image_of(schema, area, t, r);
+    rows::image_live(image)
+}
+
+// Kind 1: insert.
+fn insert(schema: &[u8], area: &mut [i64], call: &[i64], t: usize, r: usize, clean: bool) -> Answer
+    requires { ⌜ RowCall (now schema) (now area) (now call) t r × Spare clean (schemaOf (now schema)) (now area) ⌝ }
+    ensures { λ x. ⌜ (x, now (area .exit)) ≡ onWords (act (schemaOf (now (schema .entry))) (Calls.insert t r (natOf (getD (now (call .entry)) 3 (pos 0))) (drop 4 (now (call .entry)))) (view (schemaOf (now (schema .entry))) (now (area .entry)))) ⌝ }
+{
+    if is_live_row(schema, area, t, r) {
+        return Answer::Refused(Refusal::RowState);
+    }
+    let columns = fields::columns(schema, t);
+    let image = images::live_image(columns, call);
+    statements::change_row(schema, area, t, r, image, clean)
+}
+
+// Kind 2: update.
+fn update(schema: &[u8], area: &mut [i64], call: &[i64], t: usize, r: usize, clean: bool) -> Answer
+    requires { ⌜ RowCall (now schema) (now area) (now call) t r × Spare clean (schemaOf (now schema)) (now area) ⌝ }
+    ensures { λ x. ⌜ (x, now (area .exit)) ≡ onWords (act (schemaOf (now (schema .entry))) (Calls.update t r (natOf (getD (now (call .entry)) 3 (pos 0))) (drop 4 (now (call .entry)))) (view (schemaOf (now (schema .entry))) (now (area .entry)))) ⌝ }
+{
+    if !is_live_row(schema, area, t, r) {
+        return Answer::Refused(Refusal::RowState);
+    }
+    let columns = fields::columns(schema, t);
+    let image = images::live_image(columns, call);
+    statements::change_row(schema, area, t, r, image, clean)
+}
+
+// Kind 3: delete.
+fn delete(schema: &[u8], area: &mut [i64], t: usize, r: usize, clean: bool) -> Answer
+    requires { ⌜ Sound (now schema) (now area) × ((t < length (schemaOf (now schema) .tables)) × ((r < tableOf (schemaOf (now schema)) t .rows) × Spare clean (schemaOf (now schema)) (now area))) ⌝ }
+    ensures { λ x. ⌜ (x, now (area .exit)) ≡ onWords (act (schemaOf (now (schema .entry))) (Calls.delete t r) (view (schemaOf (now (schema .entry))) (now (area .entry)))) ⌝ }
+{
+    if !is_live_row(schema, area, t, r) {
+        return Answer::Refused(Refusal::RowState);
+    }
+    statements::change_row(schema, area, t, r, [0i64; 9], clean)
+}
+
+// Carries out a call that was read.
+pub fn carry_out(
+    schema: &[u8],
+    area: &mut [i64],
+    call: &[i64],
+    request: Request,
+    clean: bool,
+) -> Answer
+    requires { ⌜ Sound (now schema) (now area) × ((callOf request (now call) ≡ judged (schemaOf (now schema)) (Calls.parse (now call))) × Spare clean (schemaOf (now schema)) (now area)) ⌝ }
+    ensures { λ x. ⌜ (x, now (area .exit)) ≡ onWords (act (schemaOf (now (schema .entry))) (callOf request (now (call .entry))) (view (schemaOf (now (schema .entry))) (now (area .entry)))) ⌝ }
+{
+    match request {
+        Request::Malformed => Answer::Refused(Refusal::BadCall),
+        Request::Insert(t, r) => insert(schema, area, call, t, r, clean),
+        Request::Update(t, r) => update(schema, area, call, t, r, clean),
+        Request::Delete(t, r) => delete(schema, area, t, r, clean),
+        Request::Begin => transactions::begin(schema, area),
+        Request::Savepoint => transactions::savepoint(schema, area),
+        Request::Release(a) => transactions::release(schema, area, a, clean),
+        Request::RollbackTo(a) => transactions::rollback_to(schema, area, a),
+        Request::Rollback => transactions::rollback(schema, area, clean),
+        Request::Commit => transactions::commit(schema, area, clean),
+    }
+}
