@@ -6,7 +6,6 @@ ghost use lib.IntN.{pos};
 ghost use lib.Dec.{eqb};
 ghost use lib.ListN.{length, getD, set, take};
 ghost use lib.Seq.{sets};
-ghost use Rattle.schema.specs.Check.{checkSchema};
 ghost use Rattle.schema.specs.Fields.{schemaOf};
 ghost use Rattle.schema.specs.Records.{tableOf};
 ghost use Rattle.schema.specs.Sizes.{rowsSize, rowsStart, areaSize};
@@ -20,7 +19,6 @@ ghost use Rattle.bridge.proofs.Offsets.{rowOffset};
 ghost use Rattle.area.specs.Places.{RowPlace};
 ghost use Rattle.area.specs.Undone.{Undone};
 ghost use Rattle.area.specs.Spare.{Spare, DirtyEnd};
-use schema::SchemaAnswer;
 
 // ---- rows
 
@@ -67,12 +65,12 @@ pub fn is_full(schema: &[u8], area: &[i64]) -> bool
     room <= used
 }
 
-// The first word of journal record i; the end of the journal, where i is its room.
-fn record_at(schema: &[u8], i: usize) -> usize
-    requires { ⌜ (checkSchema (now schema) ≡ SchemaAnswer.Accepted) × (i ≤ schemaOf (now schema) .room) ⌝ }
+// The first word of journal record i; the end of the journal, where i is its room. Counted from the area's end, so that no table is looked at.
+fn record_at(schema: &[u8], area: &[i64], i: usize) -> usize
+    requires { ⌜ Ready (now schema) (now area) × (i ≤ schemaOf (now schema) .room) ⌝ }
     ensures { λ p. ⌜ p ≡ rowsStart + rowsSize (schemaOf (now (schema .entry)) .tables) + i * 10 ⌝ }
 {
-    fields::journal_start(schema) + i * 10
+    area.len() - (fields::room(schema) - i) * 10
 }
 
 // Writes the journal record at `at`: a place and the old image of its row.
@@ -100,7 +98,7 @@ pub fn write_row(schema: &[u8], area: &mut [i64], t: usize, r: usize, image: [i6
 {
     let old = image_of(schema, area, t, r);
     let used = words::nat_at(area, 2);
-    let at = record_at(schema, used);
+    let at = record_at(schema, area, used);
     set_record(area, at, t * 1024 + r, old, used + 1);
     put_in_table(schema, area, t, r, image);
     old
@@ -111,7 +109,7 @@ fn undo_one(schema: &[u8], area: &mut [i64], used: usize)
     requires { ⌜ Undoable (now schema) (now area) × (natOf (getD (now area) 2 (pos 0)) ≡ suc used) ⌝ }
     ensures { λ _. ⌜ (workOf (schemaOf (now (schema .entry))) (now (area .exit)) ≡ undo 1 (workOf (schemaOf (now (schema .entry))) (now (area .entry)))) × Keeps (schemaOf (now (schema .entry))) (now (area .entry)) (now (area .exit)) ⌝ }
 {
-    let at = record_at(schema, used);
+    let at = record_at(schema, area, used);
     let place = words::nat_at(area, at);
     let old = words::image_at(area, at + 1, 9);
     set_record(area, at, 0, [0i64; 9], used);
@@ -136,7 +134,7 @@ fn clear_spare(schema: &[u8], area: &mut [i64])
     ensures { λ _. ⌜ now (area .exit) ≡ words (cleared (view (schemaOf (now (schema .entry))) (now (area .entry)))) ⌝ }
 {
     let used = words::nat_at(area, 2);
-    let at = record_at(schema, used);
+    let at = record_at(schema, area, used);
     words::clear_from(area, at);
 }
 
@@ -159,7 +157,7 @@ fn dirty_end(schema: &[u8], area: &[i64], clean: bool) -> usize
 {
     if clean {
         let used = words::nat_at(area, 2);
-        return record_at(schema, used);
+        return record_at(schema, area, used);
     }
     area.len()
 }
@@ -169,7 +167,7 @@ pub fn empty_journal(schema: &[u8], area: &mut [i64], clean: bool)
     requires { ⌜ Ready (now schema) (now area) × Spare clean (schemaOf (now schema)) (now area) ⌝ }
     ensures { λ _. ⌜ (workOf (schemaOf (now (schema .entry))) (now (area .exit)) ≡ emptied (workOf (schemaOf (now (schema .entry))) (now (area .entry)))) × Keeps (schemaOf (now (schema .entry))) (now (area .entry)) (now (area .exit)) ⌝ }
 {
-    let at = fields::journal_start(schema);
+    let at = record_at(schema, area, 0);
     let end = dirty_end(schema, area, clean);
     words::clear_from(&mut area[0..end], at);
     area[2] = 0;

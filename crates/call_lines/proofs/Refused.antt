@@ -16,8 +16,8 @@ use Rattle.rules.specs.declared.Answer.the-variants.{Refused}
 use Rattle.rules.specs.Calls.{formedIf, parse, allowed}
 use Rattle.rules.specs.Area.{ensure, areaStep}
 use Rattle.rules.specs.Engine.{underSchema, makeFresh, callOn}
-use Rattle.engine.specs.Calls.{areaWords}
-use Rattle.engine.proofs.CallLaws.{words-accepted}
+use Rattle.fresh_area.specs.Fresh.{areaWords}
+use Rattle.fresh_area.proofs.FreshLaws.{words-accepted}
 
 module _ (schema : List ℕ) (accepted : checkSchema schema ≡ Accepted) where
   -- "area at most 8,192 words, else 3"

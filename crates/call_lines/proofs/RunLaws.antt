@@ -11,7 +11,6 @@ use lib.ListN.{length}
 use Rattle.schema.specs.Ranges.{listFrom}
 use Rattle.rules.specs.declared.Answer.{Answer}
 use Rattle.rules.specs.Lists.{flat}
-use Rattle.rules.specs.Refusals.{shown}
 use Rattle.rules.specs.Step.{Logged, runAll}
 use Rattle.rules.specs.Area.{AreaTurn}
 use Rattle.rules.specs.Engine.{callOn, runOn}
@@ -19,23 +18,11 @@ use Rattle.laws.specs.Reached.{Reached}
 use Rattle.laws.proofs.Reached.{reached-next}
 use Rattle.decoding.specs.CallBytes.{wordsAt}
 use Rattle.run_tally.specs.declared.Tally.{Tally}
-use Rattle.run_tally.specs.Tallies.{tallied}
-use Rattle.lines.specs.Text.{put, answerLine}
+use Rattle.lines.specs.Text.{put}
 use Rattle.lines.proofs.TextLaws.{then}
-use Rattle.call_lines.specs.declared.Progress.{Progress}
-use Rattle.call_lines.specs.Runs.{lineOf, countedIn, callAt, callCount, callsOf, linesOf, countedAll, Run, runAt, ranCall, ran, after}
-
--- ---- an answer
-
--- by its figures: the tally, and the line
-pub count-told : (t : Tally) (a : Answer) {code changed : ℕ} → code ≡ shown a .0 → changed ≡ shown a .1 → tallied t code changed ≡ countedIn t a
-unfolding countedIn
-count-told t a e f = ap₂ (tallied t) e f
-
-pub line-told : (p : ℕ × List ℕ) (a : Answer) {code changed : ℕ} {net : ℤ} → code ≡ shown a .0 → changed ≡ shown a .1 → net ≡ shown a .2
-    → put (answerLine code changed net) p ≡ put (lineOf a) p
-unfolding lineOf
-line-told p a e f g = rw (e, f, g) refl
+use Rattle.reports.specs.declared.Progress.{Progress}
+use Rattle.reports.specs.Reports.{lineOf, countedIn}
+use Rattle.call_lines.specs.Runs.{callAt, callCount, callsOf, linesOf, countedAll, Run, runAt, ranCall, ran, after}
 
 -- ---- call i of the bytes
 

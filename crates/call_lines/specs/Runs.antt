@@ -7,27 +7,15 @@ use lib.Dec.{leb}
 use lib.IntN.{ℤ}
 use lib.ListN.{length}
 use Rattle.schema.specs.Ranges.{listFrom}
-use Rattle.rules.specs.declared.Answer.{Answer}
 use Rattle.rules.specs.Lists.{flat}
-use Rattle.rules.specs.Refusals.{shown}
 use Rattle.rules.specs.Step.{Logged}
 use Rattle.rules.specs.Area.{AreaTurn}
 use Rattle.rules.specs.Engine.{callOn, runOn}
 use Rattle.decoding.specs.CallBytes.{wordsAt}
 use Rattle.run_tally.specs.declared.Tally.{Tally}
-use Rattle.run_tally.specs.Tallies.{tallied}
-use Rattle.lines.specs.Text.{put, answerLine}
-use Rattle.call_lines.specs.declared.Progress.{Progress}
-
--- ---- one answer
-
--- "a line per call: code, rows changed, net"
-unfoldable pub lineOf : Answer → List ℕ
-lineOf a = answerLine (shown a .0) (shown a .1) (shown a .2)
-
--- the tally with one answer more
-unfoldable pub countedIn : Tally → Answer → Tally
-countedIn t a = tallied t (shown a .0) (shown a .1)
+use Rattle.lines.specs.Text.{put}
+use Rattle.reports.specs.declared.Progress.{Progress}
+use Rattle.reports.specs.Reports.{lineOf, countedIn}
 
 -- ---- the calls
 

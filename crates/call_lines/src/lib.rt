@@ -1,86 +1,12 @@
 // Calls in bytes, run one after the other: each answer is written as a line and counted in the tally.
 ghost use mathlib.Core.Path.{_≡_};
-ghost use Prim.Native.Nat.{_+_, _*_, _≤_, min};
+ghost use Prim.Native.Nat.{_+_, _*_, _≤_};
 ghost use lib.ListN.{length};
-ghost use Rattle.rules.specs.Refusals.{shown};
 ghost use Rattle.rules.specs.Engine.{callOn};
 ghost use Rattle.laws.specs.Reached.{Reached};
-ghost use Rattle.engine.specs.Calls.{areaWords};
-ghost use Rattle.lines.specs.Text.{put};
-ghost use Rattle.call_lines.specs.Runs.{lineOf, countedIn, callAt, callCount, runAt, ranCall, ran};
+ghost use Rattle.call_lines.specs.Runs.{callAt, callCount, runAt, ranCall, ran};
+use reports::Progress;
 use rules::Answer;
-use run_tally::Tally;
-
-// How far a run has come: its tally, and how many bytes of the output buffer hold text.
-pub struct Progress {
-    pub tally: Tally,
-    pub used: usize,
-}
-
-// ---- the area
-
-// How many of `room` words the area takes: as many as the schema needs, or all if there are fewer.
-pub fn words_taken(schema: &[u8], room: usize) -> usize
-    ensures { λ r. ⌜ (r ≡ min (areaWords (now (schema .entry))) room) × (r ≤ room) ⌝ }
-{
-    let needed = engine::area_words(schema);
-    if needed < room {
-        return needed;
-    }
-    room
-}
-
-// ---- answers
-
-// An answer's code, rows changed and net.
-struct Figures {
-    code: u64,
-    changed: u64,
-    net: i64,
-}
-
-// An answer in figures.
-fn figures_of(answer: Answer) -> Figures
-    ensures { λ r. ⌜ (r .code ≡ shown answer .0) × (r .changed ≡ shown answer .1) × (r .net ≡ shown answer .2) ⌝ }
-{
-    match answer {
-        Answer::Done(changed, net) => Figures {
-            code: 0,
-            changed: changed as u64,
-            net: net,
-        },
-        Answer::Refused(refusal) => {
-            let number = words::nat_of(answers::refusal_number(refusal));
-            Figures {
-                code: number as u64,
-                changed: 0,
-                net: 0,
-            }
-        }
-    }
-}
-
-// Writes the line of an answer, and counts it.
-pub fn report(out: &mut [u8], progress: Progress, answer: Answer) -> Progress
-    requires { ⌜ progress .used + 64 ≤ length (now out) ⌝ }
-    ensures { λ r. ⌜ (r .tally ≡ countedIn (progress .tally) answer) × ((r .used, now (out .exit)) ≡ put (lineOf answer) (progress .used, now (out .entry))) × (r .used ≤ progress .used + 64) ⌝ }
-{
-    let figures = figures_of(answer);
-    let tally = progress.tally;
-    let used = lines::put_answer_line(
-        out,
-        progress.used,
-        figures.code,
-        figures.changed,
-        figures.net,
-    );
-    Progress {
-        tally: run_tally::counted(tally, figures.code, figures.changed),
-        used: used,
-    }
-}
-
-// ---- calls
 
 // Carries out call i of the bytes; one that is cut short is handed over as no words.
 fn call_at(schema: &[u8], area: &mut [i64], bytes: &[u8], i: usize) -> Answer
@@ -109,7 +35,7 @@ fn run_call(
     ensures { λ r. ⌜ (runAt (now (area .exit)) r (now (out .exit)) ≡ ranCall (now (schema .entry)) (callAt (now (bytes .entry)) i) (runAt (now (area .entry)) progress (now (out .entry)))) × (r .used ≤ progress .used + 64) ⌝ }
 {
     let answer = call_at(schema, area, bytes, i);
-    report(out, progress, answer)
+    reports::report(out, progress, answer)
 }
 
 // How many calls so many bytes are.

@@ -3,7 +3,8 @@ ghost use mathlib.Core.Path.{_≡_};
 ghost use mathlib.Core.List.{_∷_, []};
 ghost use lib.IntN.{pos};
 ghost use Rattle.schema.specs.Check;
-ghost use Rattle.engine.specs.Calls.{areaWords, callWords};
+ghost use Rattle.engine.specs.Calls.{callWords};
+ghost use Rattle.fresh_area.specs.Fresh.{areaWords};
 ghost use Rattle.rules.specs.OrphanList.{ListsOrphans};
 ghost use Rattle.capi.specs.Shown.{freshCode};
 use rules::Listed;
@@ -37,7 +38,7 @@ pub extern "C" fn hoofbook_check_schema(bytes: &[u8]) -> i64
 pub extern "C" fn hoofbook_area_words(schema: &[u8]) -> i64
     ensures { λ r. ⌜ r ≡ pos (areaWords (now (schema .entry))) ⌝ }
 {
-    words::word_of(engine::area_words(schema))
+    words::word_of(fresh_area::area_words(schema))
 }
 
 // Makes an area fresh; answers the code.
@@ -45,7 +46,7 @@ pub extern "C" fn hoofbook_area_words(schema: &[u8]) -> i64
 pub extern "C" fn hoofbook_make_fresh(schema: &[u8], area: &mut [i64]) -> i64
     ensures { λ r. ⌜ (r, now (area .exit)) ≡ freshCode (now (schema .entry)) (now (area .entry)) ⌝ }
 {
-    let answer = engine::make_fresh(schema, area);
+    let answer = fresh_area::make_fresh(schema, area);
     answers::code_of(answer)
 }
 

@@ -24,7 +24,7 @@ use Rattle.rules.specs.Change.{Change, Result, go, then, given, admits, admitte
 use Rattle.bridge.specs.Ready.{Placed, resultOf}
 use Rattle.bridge.proofs.Undo.{spared}
 use Rattle.moves.specs.Tally.{TalliedAt}
-use Rattle.changes.specs.Turns.{takesAt, actionImage}
+use Rattle.change_parts.specs.Turns.{takesAt, actionImage}
 
 -- a row with its tally is in the area
 pub at-placed : {b : List ℕ} {tally a : List ℤ} {t r : ℕ} → TalliedAt b tally a t r → Placed b a t r

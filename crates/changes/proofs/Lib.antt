@@ -1,2 +1,1 @@
-pub mod LeafLaws
 pub mod CycleLaws

@@ -1,17 +1,19 @@
--- The parent rows that serve a child row, as a scan finds them.
+-- The parent rows that serve a child row, as a scan finds them, and whether a row is an orphan.
 -- Assumes nothing.
-use mathlib.Core.Path.{_≡_, refl, ap}
+use mathlib.Core.Path.{_≡_, refl, ap, _∙_}
+use mathlib.Core.Bool.{Bool, true, false, not, _&&_}
 use mathlib.Core.List.{List}
 use Prim.Native.Nat.{ℕ, _≤_}
 use native.Mathlib.Omega.{arith}
 use lib.ListN.{length, take}
 use lib.Seq.{length-take-le}
+use Rattle.schema.specs.Records.{ForeignKey}
 use Rattle.schema.proofs.FieldLaws.{read-width}
 use Rattle.rules.specs.Lists.{any}
-use Rattle.rules.specs.Rows.{Row}
-use Rattle.rules.specs.Keys.{serves}
-use Rattle.rows.specs.KeyColumns.{KeyColumns, keyBy}
-use Rattle.rows.proofs.OrphanLaws.{serves-is}
+use Rattle.rules.specs.Rows.{Row, live}
+use Rattle.rules.specs.Keys.{fullKey, mapsTo, due, serves, orphan}
+use Rattle.bridge.proofs.KeyLaws.{key-sym}
+use Rattle.rows.specs.KeyColumns.{KeyColumns}
 use Rattle.scans.specs.WithKey.{withKey}
 
 -- a foreign key has a column
@@ -21,6 +23,25 @@ some-columns b k n cs ps c =
     let width = read-width b (c .accepted) k (c .key) refl in
     omega (arith, size, ap length (c .child-is), width .0, width .1 .low)
 
-pub any-serving : (cs ps : List ℕ) (x : Row) (ys : List Row) → any (withKey ps cs x) ys ≡ any (serves (keyBy cs ps) x) ys
-unfolding withKey
-any-serving cs ps x ys = λ i. any (λ y. serves-is cs ps x y i) ys
+module _ (k : ForeignKey) {cs : List ℕ} (e : cs ≡ k .childColumns) where
+  pub full-due : (x : Row) → fullKey cs x ≡ due k x
+  unfolding due
+  full-due x = rw e
+
+  -- the parent rows with its key
+  module _ {ps : List ℕ} (f : ps ≡ k .parentColumns) (x : Row) where
+    with-key-serves : (y : Row) → withKey ps cs x y ≡ serves k x y
+    unfolding withKey serves mapsTo
+    with-key-serves y = rw (e, f) (ap (λ (b : Bool). live y && b) (key-sym y x (k .parentColumns) (k .childColumns)))
+
+    pub any-serving : {ys zs : List Row} → ys ≡ zs → any (withKey ps cs x) ys ≡ any (serves k x) zs
+    any-serving {ys} {zs} g = (λ i. any (λ y. with-key-serves y i) ys) ∙ ap (any (serves k x)) g
+
+module _ (k : ForeignKey) (ys : List Row) (x : Row) where
+  pub orphan-undue : due k x ≡ false → false ≡ orphan k ys x
+  unfolding orphan
+  orphan-undue e = rw e
+
+  pub orphan-due : due k x ≡ true → not (any (serves k x) ys) ≡ orphan k ys x
+  unfolding orphan
+  orphan-due e = rw e

@@ -1,12 +1,11 @@
-// The engine: its public operations take any schema bytes, any area and any call.
+// The engine: a call, for any schema bytes, any area and any call.
 ghost use mathlib.Core.Path.{_≡_};
-ghost use Prim.Native.Nat.{_<_};
 ghost use Rattle.schema.specs.Fields.{schemaOf};
 ghost use Rattle.schema.specs.Check.{checkSchema};
 ghost use Rattle.rules.specs.Area.{areaStep};
-ghost use Rattle.rules.specs.Engine.{makeFresh, callOn};
+ghost use Rattle.rules.specs.Engine.{callOn};
 ghost use Rattle.laws.specs.Reached.{Reached};
-ghost use Rattle.engine.specs.Calls.{isRefused, freshArea, areaWords, callWords};
+ghost use Rattle.engine.specs.Calls.{isRefused, callWords};
 use call_form::Request;
 use rules::Answer;
 use rules::Refusal;
@@ -62,41 +61,7 @@ pub fn next(schema: &[u8], area: &mut [i64], call: &[i64]) -> Answer
     calls::carry_out(schema, area, call, request, true)
 }
 
-// Zeroes an area of the right length.
-fn clear_area(schema: &[u8], area: &mut [i64]) -> Answer
-    requires { ⌜ checkSchema (now schema) ≡ SchemaAnswer.Accepted ⌝ }
-    ensures { λ x. ⌜ (x, now (area .exit)) ≡ freshArea (schemaOf (now (schema .entry))) (now (area .entry)) ⌝ }
-{
-    if area.len() != fields::area_length(schema) {
-        return Answer::Refused(Refusal::WrongLength);
-    }
-    words::clear_from(area, 0);
-    Answer::Done(0, 0)
-}
-
 // ---- public operations
-
-// The length of an area for a schema; 0 where the schema is refused.
-pub fn area_words(schema: &[u8]) -> usize
-    ensures { λ n. ⌜ (n ≡ areaWords (now (schema .entry))) × (n < 188750) ⌝ }
-{
-    match schema_check::check_schema(schema) {
-        SchemaAnswer::Malformed => 0,
-        SchemaAnswer::Unmatched => 0,
-        SchemaAnswer::Accepted => fields::area_length(schema),
-    }
-}
-
-// Makes an area fresh: refused by 1, 2 and 3 only.
-pub fn make_fresh(schema: &[u8], area: &mut [i64]) -> Answer
-    ensures { λ x. ⌜ (x, now (area .exit)) ≡ makeFresh (now (schema .entry)) (now (area .entry)) ⌝ }
-{
-    match schema_check::check_schema(schema) {
-        SchemaAnswer::Malformed => Answer::Refused(Refusal::SchemaMalformed),
-        SchemaAnswer::Unmatched => Answer::Refused(Refusal::SchemaUnmatched),
-        SchemaAnswer::Accepted => clear_area(schema, area),
-    }
-}
 
 // Carries out a call, or refuses it.
 pub fn call(schema: &[u8], area: &mut [i64], call: &[i64]) -> Answer

@@ -4,9 +4,9 @@ ghost use Prim.Native.Nat.{_*_, _≤_};
 ghost use lib.ListN.{length, take};
 ghost use Rattle.laws.specs.Reached.{Reached};
 ghost use Rattle.call_lines.specs.Runs.{callCount, after};
-use call_lines::Progress;
 use libc::STDIN_FILENO;
 use libc::STDOUT_FILENO;
+use reports::Progress;
 use rules::Answer;
 use run_tally::Tally;
 
@@ -97,7 +97,7 @@ fn refuse(out: &mut [u8], tally: Tally, answer: Answer) -> Tally
         tally: tally,
         used: 0,
     };
-    let progress = call_lines::report(out, begun, answer);
+    let progress = reports::report(out, begun, answer);
     let used = progress.used;
     print(out, used);
     progress.tally
@@ -107,7 +107,7 @@ fn refuse(out: &mut [u8], tally: Tally, answer: Answer) -> Tally
 fn run_area(schema: &[u8], area: &mut [i64], out: &mut [u8], tally: Tally) -> Tally
     requires { ⌜ 65536 ≤ length (now out) ⌝ }
 {
-    let answer = engine::make_fresh(schema, area);
+    let answer = fresh_area::make_fresh(schema, area);
     match answer {
         Answer::Done(_, _) => {
             let mut input = [0u8; 65472];
@@ -121,7 +121,7 @@ fn run_area(schema: &[u8], area: &mut [i64], out: &mut [u8], tally: Tally) -> Ta
 fn run(schema: &[u8], words: &mut [i64], out: &mut [u8], tally: Tally) -> Tally
     requires { ⌜ 65536 ≤ length (now out) ⌝ }
 {
-    let n = call_lines::words_taken(schema, words.len());
+    let n = fresh_area::words_taken(schema, words.len());
     run_area(schema, &mut words[0..n], out, tally)
 }
 

@@ -15,9 +15,8 @@ use Rattle.schema.specs.Fields.{schemaOf}
 use Rattle.rules.specs.Lists.{count, one}
 use Rattle.rules.specs.Values.{natOf}
 use Rattle.rules.specs.Rows.{Row, Tables, rowAt, live, liveState}
-use Rattle.rules.specs.Keys.{orphan}
+use Rattle.rules.specs.Keys.{fullKey, due, orphan}
 use Rattle.rules.specs.OrphanList.{isOrphan, isRecord}
-use Rattle.rows.proofs.OrphanLaws.{orphan-vacant}
 use Rattle.orphan_scan.specs.Scan.{passing, orphansOf, orphansFrom}
 use Rattle.orphan_scan.proofs.ScanLaws.{orphanAt, tablesIn, passing-true, passing-false}
 
@@ -42,6 +41,11 @@ module _ {A : Type 0} (p : A → Bool) where
 one-of : {b : Bool} → b ≡ false → one b ≡ 0
 unfolding one
 one-of e = ap one e
+
+-- a row that is not live is no orphan
+vacant : (k : ForeignKey) (ys : List Row) (x : Row) → live x ≡ false → orphan k ys x ≡ false
+unfolding orphan due fullKey
+vacant k ys x e = rw e
 
 -- ---- the numbers of the rows that pass
 module _ (p : Row → Bool) where
@@ -116,7 +120,7 @@ module _ (tabs : Tables) (r : ℕ) where
 
   no-row : (f : ForeignKey) → orphan f (getD tabs (f .parent) []) [] ≡ false
   unfolding live liveState natOf
-  no-row f = sym (orphan-vacant f (getD tabs (f .parent) []) [] refl)
+  no-row f = vacant f (getD tabs (f .parent) []) [] refl
 
   records-cons : (k k′ : ℕ) (f : ForeignKey) (fs : List ForeignKey)
       → count (isRecord k′ r) (orphansOf tabs k 0 (f ∷ fs)) ≡ count (isRecord k′ r) (map (orphanAt k) (rowsAlone f)) + count (isRecord k′ r) (orphansOf tabs (suc k) 0 fs)

@@ -1,6 +1,6 @@
 -- The orphans in sequence, step by step.
 -- Assumes nothing.
-use mathlib.Core.Path.{_≡_, refl, sym, ap, ap₂, subst, _∙_}
+use mathlib.Core.Path.{_≡_, refl, sym, ap, ap₂, _∙_}
 use mathlib.Core.Bool.{Bool, true, false}
 use mathlib.Core.List.{List, [], _∷_, _++_, map}
 use Prim.Native.Nat.{ℕ, suc, _+_, _≤_, _<_}
@@ -9,16 +9,15 @@ use native.Mathlib.Omega.{arith}
 use lib.IntN.{ℤ}
 use lib.ListN.{length, getD, drop, drop-of-length-le, length-append, length-map}
 use lib.Seq.{drop-cons}
-use Rattle.schema.specs.Records.{ForeignKey, noKey, tableOf, keyOf}
+use Rattle.schema.specs.Records.{ForeignKey, noKey}
 use Rattle.schema.specs.Fields.{schemaOf}
 use Rattle.rules.specs.declared.Orphan.{Orphan}
-use Rattle.rules.specs.Lists.{count, one}
-use Rattle.rules.specs.Rows.{Row, Tables}
+use Rattle.rules.specs.Lists.{count}
+use Rattle.rules.specs.Rows.{Tables}
 use Rattle.rules.specs.Keys.{orphan, orphans}
 use Rattle.rules.specs.OrphanList.{orphanTotal}
 use Rattle.bridge.specs.Fit.{workOf}
-use Rattle.bridge.specs.Ready.{Ready}
-use Rattle.bridge.proofs.RowWords.{formed-fit, rows-length}
+use Rattle.orphans.proofs.OrphanLaws.{childRows, isAlone}
 use Rattle.orphan_scan.specs.Scan.{passing, orphansOf, orphansFrom, FirstRow, FirstOf}
 
 -- ---- the numbers of the elements that pass
@@ -53,21 +52,6 @@ module _ {A : Type 0} (p : A → Bool) where
       pub passing-miss : p (getD xs j d) ≡ false → passing p j (drop j xs) ≡ passing p (j + 1) (drop (j + 1) xs)
       passing-miss e = ap (passing p j) (drop-cons xs j d l) ∙ passing-false _ _ j e ∙ ap (λ (i : ℕ). passing p i (drop i xs)) (sym (add-one j))
 
--- the same test, the same rows
-pub first-is : {p q : Row → Bool} {xs ys : List Row} {from x : ℕ} → p ≡ q → xs ≡ ys → FirstRow p xs from x → FirstRow q ys from x
-first-is {p} {q} {xs} {ys} {from} {x} e f h = subst (λ (rows : List Row). FirstRow q rows from x) f (subst (λ (t : Row → Bool). FirstRow t xs from x) e h)
-
--- a truth value as a number
-pub one-true : (b : Bool) → one b ≡ 1 → b ≡ true
-unfolding one
-one-true true e = refl
-one-true false e = absurd (omega (arith, e))
-
-pub one-false : (b : Bool) → (one b ≡ 1 → ⊥) → b ≡ false
-unfolding one
-one-false true h = absurd (h refl)
-one-false false h = refl
-
 -- ---- the orphans of all foreign keys
 abbrev pub orphanAt : ℕ → ℕ → Orphan
 orphanAt k j = record { key = k; row = j }
@@ -95,17 +79,6 @@ module _ (bs : List ℕ) (ws : List ℤ) where
   abbrev pub tablesIn : Tables
   tablesIn = workOf (schemaOf bs) ws .tabs
 
-  -- the child rows of foreign key k, and which of them are orphans
-  abbrev pub childRows : ℕ → List Row
-  childRows k = getD tablesIn (keyOf (schemaOf bs) k .child) []
-
-  abbrev pub isAlone : ℕ → Row → Bool
-  isAlone k = orphan (keyOf (schemaOf bs) k) (getD tablesIn (keyOf (schemaOf bs) k .parent) [])
-
-  pub child-many : Ready bs ws → (k : ℕ) → length (childRows k) ≡ tableOf (schemaOf bs) (keyOf (schemaOf bs) k .child) .rows
-  unfolding workOf
-  child-many h k = rows-length (schemaOf bs) tablesIn (formed-fit (h .fit) .shaped) (keyOf (schemaOf bs) k .child)
-
   pub from-past : (k r : ℕ) → length (schemaOf bs .keys) ≤ k → orphansFrom bs ws k r ≡ []
   unfolding orphansFrom orphansOf
   from-past k r h = ap (orphansOf tablesIn k r) (drop-of-length-le (schemaOf bs .keys) h)
@@ -115,32 +88,32 @@ module _ (bs : List ℕ) (ws : List ℤ) where
   from-length = total-length tablesIn 0 (schemaOf bs .keys)
 
   module _ (k : ℕ) (l : k < length (schemaOf bs .keys)) where
-    from-key : (r : ℕ) → orphansFrom bs ws k r ≡ map (orphanAt k) (passing (isAlone k) r (drop r (childRows k))) ++ orphansFrom bs ws (suc k) 0
+    from-key : (r : ℕ) → orphansFrom bs ws k r ≡ map (orphanAt k) (passing (isAlone bs ws k) r (drop r (childRows bs ws k))) ++ orphansFrom bs ws (suc k) 0
     unfolding orphansFrom orphansOf
     from-key r = ap (orphansOf tablesIn k r) (drop-cons (schemaOf bs .keys) k noKey l)
 
-    module _ {r x : ℕ} (h : FirstRow (isAlone k) (childRows k) r x) where
+    module _ {r x : ℕ} (h : FirstRow (isAlone bs ws k) (childRows bs ws k) r x) where
       skipped : orphansFrom bs ws k r ≡ orphansFrom bs ws k x
       skipped = from-key r ∙ ap (λ (js : List ℕ). map (orphanAt k) js ++ orphansFrom bs ws (suc k) 0) (h .rest) ∙ sym (from-key x)
 
       -- an orphan is found
-      pub from-found : x < length (childRows k) → orphansFrom bs ws k r ≡ orphanAt k x ∷ orphansFrom bs ws k (suc x)
+      pub from-found : x < length (childRows bs ws k) → orphansFrom bs ws k r ≡ orphanAt k x ∷ orphansFrom bs ws k (suc x)
       from-found m =
           skipped
           ∙ from-key x
-          ∙ ap (λ (js : List ℕ). map (orphanAt k) js ++ orphansFrom bs ws (suc k) 0) (passing-hit (isAlone k) (childRows k) x [] m (h .found m))
+          ∙ ap (λ (js : List ℕ). map (orphanAt k) js ++ orphansFrom bs ws (suc k) 0) (passing-hit (isAlone bs ws k) (childRows bs ws k) x [] m (h .found m))
           ∙ ap (λ (os : List Orphan). orphanAt k x ∷ os) (sym (from-key (suc x)))
 
       -- the next foreign key
-      pub from-next : length (childRows k) ≤ x → orphansFrom bs ws k r ≡ orphansFrom bs ws (k + 1) 0
+      pub from-next : length (childRows bs ws k) ≤ x → orphansFrom bs ws k r ≡ orphansFrom bs ws (k + 1) 0
       from-next m =
           skipped
           ∙ from-key x
-          ∙ ap (λ (js : List ℕ). map (orphanAt k) js ++ orphansFrom bs ws (suc k) 0) (passing-none (isAlone k) (childRows k) x m)
+          ∙ ap (λ (js : List ℕ). map (orphanAt k) js ++ orphansFrom bs ws (suc k) 0) (passing-none (isAlone bs ws k) (childRows bs ws k) x m)
           ∙ ap (λ (i : ℕ). orphansFrom bs ws i 0) (sym (add-one k))
 
     -- what the search through the foreign keys gives
-    pub first-found : {l : List Orphan} (r x : ℕ) → l ≡ orphansFrom bs ws k r → FirstRow (isAlone k) (childRows k) r x → x < length (childRows k) → x < 1024 → FirstOf bs ws l (orphanAt k x)
+    pub first-found : {l : List Orphan} (r x : ℕ) → l ≡ orphansFrom bs ws k r → FirstRow (isAlone bs ws k) (childRows bs ws k) r x → x < length (childRows bs ws k) → x < 1024 → FirstOf bs ws l (orphanAt k x)
     first-found r x e h m n = record { heads = λ z. e ∙ from-found h m; small = n }
 
   pub first-none : {l : List Orphan} (k r : ℕ) → l ≡ orphansFrom bs ws k r → length (schemaOf bs .keys) ≤ k → FirstOf bs ws l (orphanAt k 0)

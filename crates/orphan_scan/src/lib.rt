@@ -2,8 +2,7 @@
 ghost use mathlib.Core.Path.{_≡_};
 ghost use mathlib.Core.List.{[]};
 ghost use Prim.Native.Nat.{_≤_, _<_};
-ghost use lib.ListN.{length, getD, take};
-ghost use Rattle.schema.specs.Bounds.{Columns};
+ghost use lib.ListN.{length, getD};
 ghost use Rattle.schema.specs.Records.{tableOf, keyOf};
 ghost use Rattle.schema.specs.Fields.{schemaOf};
 ghost use Rattle.schema.specs.Check.{checkSchema};
@@ -11,10 +10,7 @@ ghost use Rattle.rules.specs.Keys.{orphan};
 ghost use Rattle.rules.specs.OrphanList.{orphanTotal};
 ghost use Rattle.bridge.specs.Fit.{workOf};
 ghost use Rattle.bridge.specs.Ready.{Ready, Sound};
-ghost use Rattle.rows.specs.Standing.{Standing, rowsIn};
-ghost use Rattle.rows.specs.KeyColumns.{keyBy};
 ghost use Rattle.orphan_scan.specs.Scan.{orphansFrom, orphansAfter, FirstRow, FirstOf, Planned, refusedBy};
-use rows::TableRows;
 use rules::Listed;
 use rules::Orphan;
 use rules::Refusal;
@@ -28,43 +24,21 @@ pub struct Plan {
 
 // ---- the next orphan
 
-// The first orphan among the child rows from row `from` on; a number past them where there is none.
-fn seek(
-    area: &[i64],
-    children: TableRows,
-    parents: TableRows,
-    n: usize,
-    cs: &[usize; 8],
-    ps: &[usize; 8],
-    from: usize,
-) -> usize
-    requires { ⌜ (Standing (now area) children × Standing (now area) parents) × (Columns 9 n (now cs) × Columns (parents .width) n (now ps)) ⌝ }
-    ensures { λ x. ⌜ FirstRow (orphan (keyBy (take n (now (cs .entry))) (take n (now (ps .entry)))) (rowsIn (now (area .entry)) parents)) (rowsIn (now (area .entry)) children) from x ⌝ }
-{
-    let start = children.start;
-    let w = children.width;
-    let rows = children.count;
-    let mut j = from;
-    while j < rows {
-        if rows::orphan_number(area, start + j * w, w, parents, n, cs, ps) == 1 {
-            return j;
-        }
-        j += 1;
-    }
-    j
-}
-
 // The first orphan of foreign key k from row `from` on; a number past the child rows where there is none.
 fn next_row(schema: &[u8], area: &[i64], k: usize, from: usize) -> usize
     requires { ⌜ Ready (now schema) (now area) × (k < length (schemaOf (now schema) .keys)) ⌝ }
     ensures { λ x. ⌜ FirstRow (orphan (keyOf (schemaOf (now (schema .entry))) k) (getD (workOf (schemaOf (now (schema .entry))) (now (area .entry)) .tabs) (keyOf (schemaOf (now (schema .entry))) k .parent) [])) (getD (workOf (schemaOf (now (schema .entry))) (now (area .entry)) .tabs) (keyOf (schemaOf (now (schema .entry))) k .child) []) from x ⌝ }
 {
-    let children = rows::rows_of(schema, fields::child(schema, k));
-    let parents = rows::rows_of(schema, fields::parent(schema, k));
-    let n = fields::width(schema, k);
-    let cs = fields::child_columns(schema, k);
-    let ps = fields::parent_columns(schema, k);
-    seek(area, children, parents, n, &cs, &ps, from)
+    let key = orphans::key_rows(schema, k);
+    let rows = key.children.count;
+    let mut j = from;
+    while j < rows {
+        if orphans::is_orphan(schema, area, k, key, j) {
+            return j;
+        }
+        j += 1;
+    }
+    j
 }
 
 // The rows of foreign key k's child table.
@@ -115,7 +89,7 @@ fn orphan_total(schema: &[u8], area: &[i64]) -> usize
     let mut total = 0;
     let mut k = 0;
     while k < n {
-        total += rows::count_orphans(schema, area, k);
+        total += orphans::count_orphans(schema, area, k);
         k += 1;
     }
     total

@@ -2,4 +2,4 @@ pub mod CellLaws
 pub mod LoopLaws
 pub mod MaskLaws
 pub mod TableLaws
-pub mod OrphanLaws
+pub mod ActionLaws

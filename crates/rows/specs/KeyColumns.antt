@@ -8,7 +8,7 @@ use lib.Dec.{eqb}
 use lib.ListN.{length, getD, take}
 use Rattle.schema.specs.declared.SchemaAnswer.the-variants.{Accepted}
 use Rattle.schema.specs.Bounds.{Columns}
-use Rattle.schema.specs.Records.{ForeignKey, noKey, tableOf, keyOf}
+use Rattle.schema.specs.Records.{tableOf, keyOf}
 use Rattle.schema.specs.Fields.{schemaOf}
 use Rattle.schema.specs.Check.{checkSchema}
 use Rattle.rules.specs.Rows.{Row}
@@ -23,19 +23,6 @@ pub record KeyColumns (b : List ℕ) (k n : ℕ) (cs ps : List ℕ) : Type 0 whe
   pub parent-is : take n ps ≡ keyOf (schemaOf b) k .parentColumns
   pub child-within : Columns (suc (tableOf (schemaOf b) (keyOf (schemaOf b) k .child) .columns)) n cs
   pub parent-within : Columns (suc (tableOf (schemaOf b) (keyOf (schemaOf b) k .parent) .columns)) n ps
-
--- a foreign key of these columns, as far as rows can tell
-unfoldable pub keyBy : List ℕ → List ℕ → ForeignKey
-keyBy cs ps =
-    record {
-      child = noKey .child;
-      parent = noKey .parent;
-      deferred = noKey .deferred;
-      onDelete = noKey .onDelete;
-      onUpdate = noKey .onUpdate;
-      childColumns = cs;
-      parentColumns = ps;
-    }
 
 -- each column of a mask is in a row of w words
 pub record MaskWithin (w m : ℕ) : Type 0 where

@@ -1,4 +1,4 @@
-// Rows read by their words: keys compared, NOT NULL, unique, orphans.
+// Rows read by their words: keys compared, NOT NULL, the columns of unique keys, whether actions follow.
 ghost use mathlib.Core.Path.{_≡_};
 ghost use mathlib.Core.Bool.{true, false, not, _&&_};
 ghost use Prim.Native.Nat.{suc, _+_, _≤_, _<_};
@@ -12,10 +12,8 @@ ghost use Rattle.rules.specs.Lists;
 ghost use Rattle.rules.specs.Rows;
 ghost use Rattle.rules.specs.Keys;
 ghost use Rattle.rules.specs.Change;
-ghost use Rattle.bridge.specs.Fit.{workOf};
-ghost use Rattle.bridge.specs.Ready.{Ready, rowIn};
-ghost use Rattle.rows.specs.Standing.{RowAt, Standing, rowsIn, RowsOf};
-ghost use Rattle.rows.specs.KeyColumns.{KeyColumns, keyBy};
+ghost use Rattle.bridge.specs.Ready.{rowIn};
+ghost use Rattle.rows.specs.Standing.{RowAt, RowsOf};
 use schema::SchemaAnswer;
 
 // The rows of a table: their first word, the words of a row, how many there are.
@@ -264,109 +262,4 @@ pub fn fires(schema: &[u8], t: usize, old: [i64; 9], new: [i64; 9], k: usize) ->
     let n = fields::width(schema, k);
     let ps = fields::parent_columns(schema, k);
     key_changes(old, new, n, ps)
-}
-
-// ---- orphans
-
-// Whether one of the parent rows is live and has the key of a child row's image.
-fn any_serves(
-    area: &[i64],
-    parents: TableRows,
-    image: &[i64; 9],
-    n: usize,
-    cs: &[usize; 8],
-    ps: &[usize; 8],
-) -> bool
-    requires { ⌜ Standing (now area) parents × (Columns 9 n (now cs) × Columns (parents .width) n (now ps)) ⌝ }
-    ensures { λ x. ⌜ x ≡ Lists.any (Keys.serves (keyBy (take n (now (cs .entry))) (take n (now (ps .entry)))) (now (image .entry))) (rowsIn (now (area .entry)) parents) ⌝ }
-{
-    let start = parents.start;
-    let w = parents.width;
-    let rows = parents.count;
-    let mut j = 0;
-    while j < rows {
-        if has_key(area, start + j * w, w, image, n, ps, cs) {
-            return true;
-        }
-        j += 1;
-    }
-    false
-}
-
-// 1 where the child row at p is an orphan, else 0.
-pub fn orphan_number(
-    area: &[i64],
-    p: usize,
-    w: usize,
-    parents: TableRows,
-    n: usize,
-    cs: &[usize; 8],
-    ps: &[usize; 8],
-) -> usize
-    requires { ⌜ RowAt (now area) p w × (Standing (now area) parents × (Columns 9 n (now cs) × Columns (parents .width) n (now ps))) ⌝ }
-    ensures { λ x. ⌜ (x ≡ Lists.one (Keys.orphan (keyBy (take n (now (cs .entry))) (take n (now (ps .entry)))) (rowsIn (now (area .entry)) parents) (rowIn (now (area .entry)) p w))) × (x ≤ 1) ⌝ }
-{
-    if !is_live(words::nat_at(area, p)) {
-        return 0;
-    }
-    let image = words::image_at(area, p, w);
-    if !image_full_key(image, n, *cs) {
-        return 0;
-    }
-    if any_serves(area, parents, &image, n, cs, ps) {
-        return 0;
-    }
-    1
-}
-
-// The number of orphans among the child rows.
-fn orphans_among(
-    area: &[i64],
-    children: TableRows,
-    parents: TableRows,
-    n: usize,
-    cs: &[usize; 8],
-    ps: &[usize; 8],
-) -> usize
-    requires { ⌜ (Standing (now area) children × Standing (now area) parents) × (Columns 9 n (now cs) × Columns (parents .width) n (now ps)) ⌝ }
-    ensures { λ x. ⌜ (x ≡ Lists.count (Keys.orphan (keyBy (take n (now (cs .entry))) (take n (now (ps .entry)))) (rowsIn (now (area .entry)) parents)) (rowsIn (now (area .entry)) children)) × (x ≤ 1024) ⌝ }
-{
-    let start = children.start;
-    let w = children.width;
-    let rows = children.count;
-    let mut m = 0;
-    let mut j = 0;
-    while j < rows {
-        m += orphan_number(area, start + j * w, w, parents, n, cs, ps);
-        j += 1;
-    }
-    m
-}
-
-// The orphans of foreign key k, its columns given.
-pub fn orphans_of(
-    schema: &[u8],
-    area: &[i64],
-    k: usize,
-    n: usize,
-    cs: [usize; 8],
-    ps: [usize; 8],
-) -> usize
-    requires { ⌜ Ready (now schema) (now area) × KeyColumns (now schema) k n cs ps ⌝ }
-    ensures { λ x. ⌜ (x ≡ Keys.orphans (workOf (schemaOf (now (schema .entry))) (now (area .entry)) .tabs) (keyOf (schemaOf (now (schema .entry))) k)) × (x ≤ 1024) ⌝ }
-{
-    let children = rows_of(schema, fields::child(schema, k));
-    let parents = rows_of(schema, fields::parent(schema, k));
-    orphans_among(area, children, parents, n, &cs, &ps)
-}
-
-// The orphans of foreign key k, counted from the rows.
-pub fn count_orphans(schema: &[u8], area: &[i64], k: usize) -> usize
-    requires { ⌜ Ready (now schema) (now area) × (k < length (schemaOf (now schema) .keys)) ⌝ }
-    ensures { λ x. ⌜ (x ≡ Keys.orphans (workOf (schemaOf (now (schema .entry))) (now (area .entry)) .tabs) (keyOf (schemaOf (now (schema .entry))) k)) × (x ≤ 1024) ⌝ }
-{
-    let n = fields::width(schema, k);
-    let cs = fields::child_columns(schema, k);
-    let ps = fields::parent_columns(schema, k);
-    orphans_of(schema, area, k, n, cs, ps)
 }

@@ -17,8 +17,8 @@ use Rattle.bridge.proofs.Bits.{same-eq}
 use Rattle.bridge.proofs.Tests.{all-head, all-tail}
 use Rattle.laws.specs.Reached.{Reached}
 use Rattle.laws.proofs.Reached.{reached-fresh}
-use Rattle.engine.specs.Calls.{areaWords}
-use Rattle.engine.proofs.CallLaws.{words-accepted, words-malformed, words-unmatched}
+use Rattle.fresh_area.specs.Fresh.{areaWords}
+use Rattle.fresh_area.proofs.FreshLaws.{words-accepted, words-malformed, words-unmatched}
 
 all-zeros : (ws : List ℤ) → allZero ws ≡ true → ws ≡ replicate (length ws) 𝟘
 unfolding allZero

@@ -37,7 +37,7 @@ fn is_blank(area: &[i64]) -> bool
 fn is_fresh(schema: &[u8], area: &[i64]) -> bool
     ensures { λ x. ⌜ ReachedIf x (now (schema .entry)) (now (area .entry)) ⌝ }
 {
-    let n = engine::area_words(schema);
+    let n = fresh_area::area_words(schema);
     if n == 0 {
         return false;
     }

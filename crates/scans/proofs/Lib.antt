@@ -1,2 +1,3 @@
 pub mod ScanLaws
 pub mod SkipLaws
+pub mod FirstLaws

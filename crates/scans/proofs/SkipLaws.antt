@@ -13,7 +13,7 @@ use lib.ListN.{length, getD, take, drop}
 use lib.Seq.{getD-take, getD-drop}
 use Rattle.schema.specs.Bounds.{Columns}
 use Rattle.schema.proofs.RangeLaws.{and-left, and-right}
-use Rattle.rules.specs.Lists.{𝟘, any, count, one}
+use Rattle.rules.specs.Lists.{𝟘, count, one}
 use Rattle.rules.specs.Values.{sameValue}
 use Rattle.rules.specs.Rows.{Row, live, valueAt}
 use Rattle.rules.specs.Keys.{sameCell, sameKey}
@@ -21,11 +21,11 @@ use Rattle.bridge.specs.Ready.{rowIn}
 use Rattle.bridge.proofs.Tests.{and-both}
 use Rattle.rows.specs.declared.TableRows.{TableRows}
 use Rattle.rows.specs.Standing.{rowsIn}
-use Rattle.rows.proofs.LoopLaws.{any-miss, count-more}
+use Rattle.rows.proofs.LoopLaws.{count-more}
 use Rattle.rows.proofs.TableLaws.{rows-many, row-get}
 use Rattle.moves.proofs.Taken.{first, rest}
 use Rattle.scans.specs.declared.Sought.{Sought}
-use Rattle.scans.specs.WithKey.{withKey}
+use Rattle.scans.specs.WithKey.{withKey, withKeyAt}
 use Rattle.scans.specs.Skipped.{second, soughtOf, alike, fourAlike, Skipped}
 
 -- ---- the columns that are looked at
@@ -80,14 +80,6 @@ module _ (n : ℕ) (cs ds : List ℕ) (image : Row) (some : 1 ≤ n) (l : n ≤ 
 
 -- ---- rows that are passed over
 module _ (p : Row → Bool) (xs : List Row) where
-  any-past : (k j : ℕ) → j + k ≤ length xs → ((i : ℕ) → j ≤ i → i < j + k → p (getD xs i []) ≡ false) → any p (drop j xs) ≡ any p (drop (j + k) xs)
-  any-past zero j l h = let all : j ≡ j + 0 = omega arith in ap (λ n. any p (drop n xs)) all
-  any-past (suc k) j l h =
-      let next : j + 1 + k ≡ j + suc k = omega arith in
-      any-miss p xs j (omega (arith, l)) [] (getD xs j []) refl (h j (omega arith) (omega arith))
-      ∙ any-past k (j + 1) (omega (arith, l)) (λ i a b. h i (omega (arith, a)) (omega (arith, b)))
-      ∙ ap (λ n. any p (drop n xs)) next
-
   count-past : (k j : ℕ) → j + k ≤ length xs → ((i : ℕ) → j ≤ i → i < j + k → p (getD xs i []) ≡ false) → count p (drop j xs) ≡ count p (drop (j + k) xs)
   unfolding one
   count-past zero j l h = let all : j ≡ j + 0 = omega arith in ap (λ n. count p (drop n xs)) all
@@ -104,18 +96,14 @@ module _ (a : List ℤ) (t : TableRows) (n : ℕ) (cs ds : List ℕ) (image : Ro
   abbrev P : Row → Bool
   P = withKey (take n cs) (take n ds) image
 
-  passed : (j : ℕ) → from ≤ j → j < x → withKey (take n cs) (take n ds) image (getD (rowsIn a t) j []) ≡ false
+  pub passed : (j : ℕ) → from ≤ j → j < x → withKeyAt (take n cs) (take n ds) image (rowsIn a t) j ≡ false
+  unfolding withKeyAt
   passed j l m =
       without n cs ds image some (omega (arith, k .few, k .size)) (omega (arith, q .few, q .size)) (getD (rowsIn a t) j [])
       (ap (λ s. alike s (getD (rowsIn a t) j [])) (sym e) ∙ h .none j l m)
 
-  pub any-skipped : any (withKey (take n cs) (take n ds) image) (drop from (rowsIn a t)) ≡ any (withKey (take n cs) (take n ds) image) (drop x (rowsIn a t))
-  any-skipped =
-      let whole : from + (x - from) ≡ x = omega (arith, h .low) in
-      any-past P (rowsIn a t) (x - from) from (omega (arith, whole, h .high, rows-many a t)) (λ j l m. passed j l (omega (arith, m, whole)))
-      ∙ ap (λ m. any P (drop m (rowsIn a t))) whole
-
   pub count-skipped : count (withKey (take n cs) (take n ds) image) (drop from (rowsIn a t)) ≡ count (withKey (take n cs) (take n ds) image) (drop x (rowsIn a t))
+  unfolding withKeyAt
   count-skipped =
       let whole : from + (x - from) ≡ x = omega (arith, h .low) in
       count-past P (rowsIn a t) (x - from) from (omega (arith, whole, h .high, rows-many a t)) (λ j l m. passed j l (omega (arith, m, whole)))

@@ -1,2 +1,3 @@
 pub mod WithKey
+pub mod FirstFrom
 pub mod Skipped

@@ -7,7 +7,8 @@ ghost use Rattle.rules.specs.Lists;
 ghost use Rattle.moves.specs.Movement.{except};
 ghost use Rattle.bridge.specs.Ready.{rowIn};
 ghost use Rattle.rows.specs.Standing.{RowAt, Standing, rowsIn};
-ghost use Rattle.scans.specs.WithKey.{withKey, rowsBefore, rowsAfter};
+ghost use Rattle.scans.specs.WithKey.{withKey, withKeyAt, rowsBefore, rowsAfter};
+ghost use Rattle.scans.specs.FirstFrom.{FirstFrom};
 ghost use Rattle.scans.specs.Skipped.{second, soughtOf, alike, fourAlike, Skipped};
 use rows::TableRows;
 
@@ -98,6 +99,33 @@ fn skip_rows(area: &[i64], table: TableRows, sought: Sought, from: usize) -> usi
 
 // ---- all rows
 
+// The first row from `from` on that is live and has an image's key; the number of rows where there is none.
+pub fn first_with_key(
+    area: &[i64],
+    table: TableRows,
+    image: &[i64; 9],
+    n: usize,
+    cs: &[usize; 8],
+    ds: &[usize; 8],
+    from: usize,
+) -> usize
+    requires { ⌜ (Standing (now area) table × (from ≤ table .count)) × ((1 ≤ n) × (Columns (table .width) n (now cs) × Columns 9 n (now ds))) ⌝ }
+    ensures { λ x. ⌜ FirstFrom (withKeyAt (take n (now (cs .entry))) (take n (now (ds .entry))) (now (image .entry)) (rowsIn (now (area .entry)) table)) (table .count) from x ⌝ }
+{
+    let start = table.start;
+    let w = table.width;
+    let rows = table.count;
+    let sought = sought_of(image, n, cs, ds);
+    let mut j = skip_rows(area, table, sought, from);
+    while j < rows {
+        if rows::has_key(area, start + j * w, w, image, n, cs, ds) {
+            return j;
+        }
+        j = skip_rows(area, table, sought, j + 1);
+    }
+    rows
+}
+
 // Whether one of the rows is live and has an image's key.
 pub fn any_with_key(
     area: &[i64],
@@ -110,18 +138,8 @@ pub fn any_with_key(
     requires { ⌜ Standing (now area) table × ((1 ≤ n) × (Columns (table .width) n (now cs) × Columns 9 n (now ds))) ⌝ }
     ensures { λ x. ⌜ x ≡ Lists.any (withKey (take n (now (cs .entry))) (take n (now (ds .entry))) (now (image .entry))) (rowsIn (now (area .entry)) table) ⌝ }
 {
-    let start = table.start;
-    let w = table.width;
-    let rows = table.count;
-    let sought = sought_of(image, n, cs, ds);
-    let mut j = skip_rows(area, table, sought, 0);
-    while j < rows {
-        if rows::has_key(area, start + j * w, w, image, n, cs, ds) {
-            return true;
-        }
-        j = skip_rows(area, table, sought, j + 1);
-    }
-    false
+    let j = first_with_key(area, table, image, n, cs, ds, 0);
+    j < table.count
 }
 
 // 1 where the row at p is live and has an image's key, else 0.

@@ -1,3 +1,3 @@
-pub mod SettleLaws
+pub mod StatementLaws
 pub mod TallyEnds
 pub mod Ends

@@ -14,22 +14,25 @@ nat-at-requires : tie.Need-nat-at-requires
 nat-at-requires c κs = omega (arith, area-long (c .before .before .pre .fit))
 
 record-at-requires : tie.Need-record-at-requires
-record-at-requires c κs = (c .before .before .before .pre .accepted, omega (arith, c .nat-at .ensures, use-in-room (c .before .before .before .pre .fit)))
+record-at-requires c κs =
+    let s = c .before .before .before .before in
+    (s .pre, omega (arith, c .before .nat-at .ensures, use-in-room (s .pre .fit)))
 
 clear-from-requires : tie.Need-clear-from-requires
 clear-from-requires c κs =
-    let nat-at = c .before .before .nat-at in
-    omega (arith, nat-at .ensures, use-in-room (c .before .before .before .before .before .pre .fit), area-long (c .before .before .before .before .before .pre .fit))
+    let nat-at = c .before .before .before .nat-at in
+    let s = c .before .before .before .before .before .before in
+    omega (arith, nat-at .ensures, use-in-room (s .pre .fit), area-long (s .pre .fit))
 
 same-length : tie.Need-same-length
 same-length c = search needs
 
 returns : tie.Need-returns
 returns c =
-    let nat-at = c .before .before .before .before .nat-at in
+    let nat-at = c .before .before .before .before .before .nat-at in
     let record-at = c .before .before .before .record-at in
-    let clear-from = c .before .clear-from in
-    clear-from .ensures ∙ sym (words-cleared (c .before .before .before .before .before .before .before .pre .fit) _ (record-at .ensures ∙ ap (λ (u : ℕ). rowsStart + rowsSize (schemaOf (c .before .before .before .before .before .before .before .args .schema .now) .tables) + u * 10) (nat-at .ensures)))
+    let s = c .before .before .before .before .before .before .before .before in
+    c .before .clear-from .ensures ∙ sym (words-cleared (s .pre .fit) _ (record-at .ensures ∙ ap (λ (u : ℕ). rowsStart + rowsSize (schemaOf (s .args .schema .now) .tables) + u * 10) (nat-at .ensures)))
 
 pub clear-spare-spec : {M : Type 1} → statement M
 clear-spare-spec =

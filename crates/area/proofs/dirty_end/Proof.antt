@@ -15,7 +15,7 @@ nat-at-requires c κs = omega (arith, area-long (c .before .before .pre .0 .fit)
 record-at-requires : tie.Need-record-at-requires
 record-at-requires c κs =
     let s = c .before .before .before in
-    (s .pre .0 .accepted, omega (arith, c .nat-at .ensures, use-in-room (s .pre .0 .fit)))
+    (s .pre .0, omega (arith, c .nat-at .ensures, use-in-room (s .pre .0 .fit)))
 
 returns : tie.Need-returns
 returns c =

@@ -13,21 +13,27 @@ nat-at-requires : tie.Need-nat-at-requires
 nat-at-requires c κs = omega (arith, area-long (c .before .before .before .before .pre .0 .ready .fit))
 
 record-at-requires : tie.Need-record-at-requires
-record-at-requires c κs = let s = c .before .before .before .before .before in (s .pre .0 .ready .accepted, omega (arith, c .nat-at .ensures, next-in-room (s .pre .0) (s .pre .1)))
+record-at-requires c κs =
+    let s = c .before .before .before .before .before .before in
+    (s .pre .0 .ready, omega (arith, c .before .nat-at .ensures, next-in-room (s .pre .0) (s .pre .1)))
 
 mul-set-record : tie.Need-mul-set-record
-mul-set-record c = let s = c .before .before .before .before .before .before .before in omega (arith, place-word (s .pre .0) (s .pre .1))
+mul-set-record c =
+    let s = c .before .before .before .before .before .before .before .before in
+    omega (arith, place-word (s .pre .0) (s .pre .1))
 
 add-set-record : tie.Need-add-set-record
-add-set-record c = let s = c .before .before .before .before .before .before .before in omega (arith, place-word (s .pre .0) (s .pre .1))
+add-set-record c =
+    let s = c .before .before .before .before .before .before .before .before in
+    omega (arith, place-word (s .pre .0) (s .pre .1))
 
 add-set-record-2 : tie.Need-add-set-record-2
 add-set-record-2 c = search needs
 
 set-record-requires : tie.Need-set-record-requires
 set-record-requires c κs =
-    let nat-at = c .before .before .nat-at in
-    let s = c .before .before .before .before .before .before .before in
+    let nat-at = c .before .before .before .nat-at in
+    let s = c .before .before .before .before .before .before .before .before in
     let h = next-in-room (s .pre .0) (s .pre .1) in
     (omega (arith, nat-at .ensures, area-long (s .pre .0 .ready .fit)), (omega (arith, place-word (s .pre .0) (s .pre .1)), omega (arith, nat-at .ensures, room-few _ (s .pre .0 .ready .accepted))))
 
@@ -39,13 +45,12 @@ same-length c = search needs
 
 returns : tie.Need-returns
 returns c =
-    let image-of = c .before .before .before .before .before .before .before .before .before .image-of in
-    let nat-at = c .before .before .before .before .before .before .before .nat-at in
+    let image-of = c .before .before .before .before .before .before .before .before .before .before .image-of in
+    let nat-at = c .before .before .before .before .before .before .before .before .nat-at in
     let record-at = c .before .before .before .before .before .before .record-at in
     let set-record = c .before .before .before .before .set-record in
-    let put-in-table = c .before .put-in-table in
-    let s = c .before .before .before .before .before .before .before .before .before .before .before .before in
-    (image-of .ensures, written-is (s .pre .0) (s .pre .1) (s .args .image) (search needs) (record-at .ensures) (nat-at .ensures) (image-of .ensures) (set-record .ensures) (put-in-table .ensures))
+    let s = c .before .before .before .before .before .before .before .before .before .before .before .before .before in
+    (image-of .ensures, written-is (s .pre .0) (s .pre .1) (s .args .image) (search needs) (record-at .ensures) (nat-at .ensures) (image-of .ensures) (set-record .ensures) (c .before .put-in-table .ensures))
 
 pub write-row-spec : {M : Type 1} → statement M
 write-row-spec =

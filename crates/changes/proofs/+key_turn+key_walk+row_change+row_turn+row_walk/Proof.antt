@@ -33,10 +33,10 @@ use Rattle.changes.proofs.+key_turn+key_walk+row_change+row_turn+row_wa
 use Rattle.changes.proofs.row_walk.Reads as row-walk
 use Rattle.changes.proofs.row_walk.Kinds as row-walk-kinds
 use Rattle.changes.proofs.+key_turn+key_walk+row_change+row_turn+row_walk.Lts-row_walk as row-walk-lts
-use Rattle.changes.proofs.action_of.Reads as action-of-reads
-use Rattle.changes.proofs.admits.Reads as admits-reads
-use Rattle.changes.proofs.child_after.Reads as child-after-reads
-use Rattle.changes.proofs.next_taken.Reads as next-taken-reads
+use Rattle.change_parts.proofs.action_of.Reads as action-of-reads
+use Rattle.change_parts.proofs.admits.Reads as admits-reads
+use Rattle.change_parts.proofs.child_after.Reads as child-after-reads
+use Rattle.change_parts.proofs.next_taken.Reads as next-taken-reads
 use Rattle.tally.proofs.write_tallied.Reads as write-tallied-reads
 use Rattle.fields.proofs.child.Reads as child-reads
 use Rattle.fields.proofs.key_count.Reads as key-count-reads

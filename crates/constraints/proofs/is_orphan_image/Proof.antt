@@ -5,7 +5,7 @@ use borrow.Author.Tests.{not-true, not-false}
 use Rattle.schema.specs.Records.{keyOf}
 use Rattle.schema.specs.Fields.{schemaOf}
 use Rattle.rows.proofs.TableLaws.{child-wide}
-use Rattle.rows.proofs.OrphanLaws.{full-due, orphan-undue, orphan-due}
+use Rattle.constraints.proofs.ServedLaws.{full-due, orphan-undue, orphan-due}
 use Rattle.constraints.proofs.is_orphan_image.Statement.{statement}
 use Rattle.constraints.proofs.is_orphan_image.Tie as tie
 
@@ -16,7 +16,7 @@ returns : tie.Need-returns
 returns c =
     let s = c .before .before .before in
     let K = keyOf (schemaOf (s .args .schema .now)) (s .args .k) in
-    let e = sym (full-due K _ (s .pre .1 .child-is)) ∙ sym (c .before .image-full-key .ensures) in
+    let e = sym (full-due K (s .pre .1 .child-is) _) ∙ sym (c .before .image-full-key .ensures) in
     orphan-undue K _ _ (e ∙ not-true _ (c .if1 .taken))
 
 is-served-requires : tie.Need-is-served-requires
@@ -26,7 +26,7 @@ returns-2 : tie.Need-returns-2
 returns-2 c =
     let s = c .before .before .before .before in
     let K = keyOf (schemaOf (s .args .schema .now)) (s .args .k) in
-    let e = sym (full-due K _ (s .pre .1 .child-is)) ∙ sym (c .before .before .image-full-key .ensures) in
+    let e = sym (full-due K (s .pre .1 .child-is) _) ∙ sym (c .before .before .image-full-key .ensures) in
     ap not (c .is-served .ensures) ∙ orphan-due K _ _ (e ∙ not-false _ (c .before .if1 .left))
 
 pub is-orphan-image-spec : {M : Type 1} → statement M

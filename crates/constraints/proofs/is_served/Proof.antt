@@ -1,4 +1,3 @@
-use Rattle.constraints.proofs.ServedLaws.{some-columns, any-serving}
 use mathlib.Core.Path.{ap, _∙_}
 use mathlib.Core.List.{[]}
 use Prim.Native.Nat.{ℕ}
@@ -8,7 +7,7 @@ use Rattle.schema.specs.Records.{keyOf}
 use Rattle.schema.specs.Fields.{schemaOf}
 use Rattle.bridge.specs.Fit.{workOf}
 use Rattle.rows.proofs.TableLaws.{rows-are, standing, child-wide, parent-in}
-use Rattle.rows.proofs.OrphanLaws.{served-is}
+use Rattle.constraints.proofs.ServedLaws.{some-columns, any-serving}
 use Rattle.constraints.proofs.is_served.Statement.{statement}
 use Rattle.constraints.proofs.is_served.Tie as tie
 
@@ -37,7 +36,7 @@ returns c =
     let there = parent .ensures in
     let rows = rows-are (s .args .schema .now) (s .args .area .now) (s .pre .0) (parent .result) (there .1) (rows-of .result) (rows-of .ensures) in
     let parents = ap (λ (t : ℕ). getD tabs t []) (there .0) in
-    c .any-with-key .ensures ∙ any-serving _ _ _ _ ∙ served-is K (s .pre .1 .child-is) (s .pre .1 .parent-is) tabs (rows ∙ parents) _
+    c .any-with-key .ensures ∙ any-serving K (s .pre .1 .child-is) (s .pre .1 .parent-is) _ (rows ∙ parents)
 
 pub is-served-spec : {M : Type 1} → statement M
 is-served-spec = tie.close (tie.spec parent-requires rows-of-requires any-with-key-requires returns)

@@ -2,7 +2,7 @@ use mathlib.Core.Path.{ap}
 use native.Mathlib.Omega.{arith}
 use borrow.Author.Needs.{needs}
 use Rattle.rules.specs.Refusals.{accepted}
-use Rattle.engine.proofs.CallLaws.{fresh-reached}
+use Rattle.fresh_area.proofs.FreshLaws.{fresh-reached}
 use Rattle.call_lines.specs.Runs.{callCount}
 use Rattle.hoofrun.proofs.run_area.Statement.{statement}
 use Rattle.hoofrun.proofs.run_area.Tie as tie

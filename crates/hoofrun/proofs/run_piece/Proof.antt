@@ -3,7 +3,7 @@ use Prim.Native.Nat.{_-_}
 use native.Mathlib.Omega.{arith}
 use lib.ListN.{length, take, length-take}
 use borrow.Author.Needs.{needs}
-use Rattle.call_lines.specs.declared.Progress.{Progress}
+use Rattle.reports.specs.declared.Progress.{Progress}
 use Rattle.call_lines.specs.Runs.{after}
 use Rattle.call_lines.proofs.RunLaws.{count-rises, ran-after}
 use Rattle.hoofrun.proofs.run_piece.Statement.{statement}

@@ -4,8 +4,9 @@ use native.Mathlib.Omega.{arith}
 use borrow.Author.Needs.{needs}
 use lib.ListN.{length}
 use Rattle.schema.specs.Fields.{schemaOf}
+use Rattle.orphans.proofs.OrphanLaws.{childRows, child-many}
 use Rattle.orphan_scan.specs.Scan.{orphansFrom}
-use Rattle.orphan_scan.proofs.ScanLaws.{childRows, child-many, from-next, first-found, first-none}
+use Rattle.orphan_scan.proofs.ScanLaws.{from-next, first-found, first-none}
 use Rattle.orphan_scan.proofs.first_from.Statement.{statement}
 use Rattle.orphan_scan.proofs.first_from.Tie as tie
 
@@ -36,7 +37,7 @@ returns c =
     let rows = c .before .child-rows in
     let b = s .args .schema .now in
     let a = s .args .area .now in
-    let many = child-many b a (s .pre) (loop .i) in
+    let many = child-many b a (loop .i) (s .pre) in
     let below : loop .i < length (schemaOf b .keys) = omega (arith, keys .ensures .0, c .before .before .before .loop-test .taken) in
     let within : row .result < length (childRows b a (loop .i)) = omega (arith, many, rows .ensures .0, c .if1 .taken) in
     let small : row .result < 1024 = omega (arith, rows .ensures .1, c .if1 .taken) in
@@ -57,7 +58,7 @@ loop-again c =
     let rows = c .before .child-rows in
     let b = s .args .schema .now in
     let a = s .args .area .now in
-    let many = child-many b a (s .pre) (loop .i) in
+    let many = child-many b a (loop .i) (s .pre) in
     let below : loop .i < length (schemaOf b .keys) = omega (arith, keys .ensures .0, c .before .before .before .loop-test .taken) in
     let past : length (childRows b a (loop .i)) ≤ row .result = omega (arith, many, rows .ensures .0, c .if1 .left) in
     loop .inv ∙ from-next b a (loop .i) below (row .ensures) past

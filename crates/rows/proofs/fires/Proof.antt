@@ -3,7 +3,7 @@ use borrow.Author.Needs.{needs}
 use Rattle.schema.specs.Records.{keyOf}
 use Rattle.schema.specs.Fields.{schemaOf}
 use Rattle.rows.proofs.TableLaws.{parent-read, parent-nine}
-use Rattle.rows.proofs.OrphanLaws.{fires-other, fires-rest}
+use Rattle.rows.proofs.ActionLaws.{fires-other, fires-rest}
 use Rattle.rows.proofs.fires.Statement.{statement}
 use Rattle.rows.proofs.fires.Tie as tie
 

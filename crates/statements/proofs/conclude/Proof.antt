@@ -9,6 +9,7 @@ use Rattle.bridge.proofs.HoldLaws.{area-long}
 use Rattle.bridge.proofs.RowWords.{use-is}
 use Rattle.words.proofs.Signed.{back}
 use Rattle.sums.proofs.KeptSmall.{small-more}
+use Rattle.settlement.proofs.KeptLaws as kept
 use Rattle.statements.proofs.Ends as ends
 use borrow.Author.Needs.{needs}
 use Rattle.statements.proofs.conclude.Statement.{statement}
@@ -33,7 +34,7 @@ put-back-requires c κs =
     let settle = c .before .before .before .before .before .settle in
     let s = c .before .before .before .before .before .before .before .before .before .before in
     let sc : Schema = schemaOf (s .args .schema .now) in
-    ends.undoable-same (s .pre .0) (s .pre .1) (ends.failed-same sc (plus ((view sc (s .args .area .now)) .kept) (s .args .tally)) (s .args .area .now) (settle .last .1 .0) (c .before .before .c .given .1) (settle .ensures .1))
+    ends.undoable-same (s .pre .0) (s .pre .1) (kept.failed-same sc (plus ((view sc (s .args .area .now)) .kept) (s .args .tally)) (s .args .area .now) (settle .last .1 .0) (c .before .before .c .given .1) (settle .ensures .1))
 
 enum-told : tie.Need-enum-told
 enum-told c = search needs
@@ -50,7 +51,7 @@ returns c =
     let put-back = c .before .put-back in
     let s = c .before .before .before .before .before .before .before .before .before .before .before .before in
     let sc : Schema = schemaOf (s .args .schema .now) in
-    ends.ended-fail sc (s .args .used) (s .args .tally) (s .args .area .now) _ _ _ (sym (c .before .before .before .before .c .given .1) ∙ settle .ensures .0) (ends.failed-same sc (plus ((view sc (s .args .area .now)) .kept) (s .args .tally)) (s .args .area .now) (settle .last .1 .0) (c .before .before .before .before .c .given .1) (settle .ensures .1)) (put-back .ensures)
+    ends.ended-fail sc (s .args .used) (s .args .tally) (s .args .area .now) _ _ _ (sym (c .before .before .before .before .c .given .1) ∙ settle .ensures .0) (kept.failed-same sc (plus ((view sc (s .args .area .now)) .kept) (s .args .tally)) (s .args .area .now) (settle .last .1 .0) (c .before .before .before .before .c .given .1) (settle .ensures .1)) (put-back .ensures)
 
 same-length-2 : tie.Need-same-length-2
 same-length-2 c = search needs
@@ -62,7 +63,7 @@ returns-2 c =
     let enum-told = c .before .enum-told in
     let s = c .before .before .before .before .before .before .before .before .before in
     let sc : Schema = schemaOf (s .args .schema .now) in
-    ends.ended-pass sc (s .args .used) (s .args .tally) (s .args .area .now) _ _ _ (sym (enum-told .given .1) ∙ settle .ensures .0) (ap (λ (n : ℕ). n - s .args .used) (nat-at .ensures ∙ sym (use-is (s .pre .0 .settling .ready .fit)))) (back _ (c .sum-of .ok) ∙ c .sum-of .ensures) (ends.passed-holds sc (plus ((view sc (s .args .area .now)) .kept) (s .args .tally)) (s .args .area .now) (settle .last .1 .0) (enum-told .given .1) (settle .ensures .1))
+    ends.ended-pass sc (s .args .used) (s .args .tally) (s .args .area .now) _ _ _ (sym (enum-told .given .1) ∙ settle .ensures .0) (ap (λ (n : ℕ). n - s .args .used) (nat-at .ensures ∙ sym (use-is (s .pre .0 .settling .ready .fit)))) (back _ (c .sum-of .ok) ∙ c .sum-of .ensures) (kept.passed-holds sc (plus ((view sc (s .args .area .now)) .kept) (s .args .tally)) (s .args .area .now) (settle .last .1 .0) (enum-told .given .1) (settle .ensures .1))
 
 pub conclude-spec : {M : Type 1} → statement M
 conclude-spec =

@@ -1,0 +1,86 @@
+use mathlib.Core.Path.{sym, _∙_}
+use borrow.Author.Tests.{not-true, not-false}
+use Rattle.schema.specs.Fields.{schemaOf}
+use Rattle.bridge.specs.Fit.{workOf}
+use Rattle.change_parts.proofs.PartLaws as law
+use borrow.Author.Needs.{needs}
+use Rattle.change_parts.proofs.admits.Statement.{statement}
+use Rattle.change_parts.proofs.admits.Tie as tie
+
+is-full-requires : tie.Need-is-full-requires
+is-full-requires c κs = search needs
+
+returns : tie.Need-returns
+returns c =
+    let s = c .before .before .before in
+    let sc = schemaOf (s .args .schema .now) in
+    law.admits-full sc (s .args .t) (s .args .r) (s .args .image) (workOf sc (s .args .area .now)) (sym (c .before .is-full .ensures) ∙ c .if1 .taken)
+
+image-live-requires : tie.Need-image-live-requires
+image-live-requires c κs = search needs
+
+returns-2 : tie.Need-returns-2
+returns-2 c =
+    let if1 = c .before .before .if1 in
+    let image-live = c .before .image-live in
+    let s = c .before .before .before .before .before in
+    let sc = schemaOf (s .args .schema .now) in
+    let is-full = c .before .before .before .is-full in
+    law.admits-deleted sc (s .args .t) (s .args .r) (s .args .image) (workOf sc (s .args .area .now)) (sym (is-full .ensures) ∙ if1 .left) (sym (image-live .ensures) ∙ not-true _ (c .if2 .taken))
+
+not-null-broken-requires : tie.Need-not-null-broken-requires
+not-null-broken-requires c κs = search needs
+
+returns-3 : tie.Need-returns-3
+returns-3 c =
+    let if2 = c .before .before .if2 in
+    let not-null-broken = c .before .not-null-broken in
+    let s = c .before .before .before .before .before .before .before in
+    let sc = schemaOf (s .args .schema .now) in
+    let is-full = c .before .before .before .before .before .is-full in
+    let if1 = c .before .before .before .before .if1 in
+    let image-live = c .before .before .before .image-live in
+    law.admits-null sc (s .args .t) (s .args .r) (s .args .image) (workOf sc (s .args .area .now)) (sym (is-full .ensures) ∙ if1 .left) (sym (image-live .ensures) ∙ not-false _ (if2 .left)) (sym (not-null-broken .ensures) ∙ c .if3 .taken)
+
+unique-broken-requires : tie.Need-unique-broken-requires
+unique-broken-requires c κs = search needs
+
+returns-4 : tie.Need-returns-4
+returns-4 c =
+    let if3 = c .before .before .if3 in
+    let unique-broken = c .before .unique-broken in
+    let s = c .before .before .before .before .before .before .before .before .before in
+    let sc = schemaOf (s .args .schema .now) in
+    let is-full = c .before .before .before .before .before .before .before .is-full in
+    let if1 = c .before .before .before .before .before .before .if1 in
+    let image-live = c .before .before .before .before .before .image-live in
+    let not-null-broken = c .before .before .before .not-null-broken in
+    let if2 = c .before .before .before .before .if2 in
+    law.admits-unique sc (s .args .t) (s .args .r) (s .args .image) (workOf sc (s .args .area .now)) (sym (is-full .ensures) ∙ if1 .left) (sym (image-live .ensures) ∙ not-false _ (if2 .left)) (sym (not-null-broken .ensures) ∙ if3 .left) (sym (unique-broken .ensures) ∙ c .if4 .taken)
+
+returns-5 : tie.Need-returns-5
+returns-5 c =
+    let if3 = c .before .before .if3 in
+    let unique-broken = c .before .unique-broken in
+    let s = c .before .before .before .before .before .before .before .before .before in
+    let sc = schemaOf (s .args .schema .now) in
+    let is-full = c .before .before .before .before .before .before .before .is-full in
+    let if1 = c .before .before .before .before .before .before .if1 in
+    let image-live = c .before .before .before .before .before .image-live in
+    let not-null-broken = c .before .before .before .not-null-broken in
+    let if2 = c .before .before .before .before .if2 in
+    law.admits-pass sc (s .args .t) (s .args .r) (s .args .image) (workOf sc (s .args .area .now)) (sym (is-full .ensures) ∙ if1 .left) (sym (image-live .ensures) ∙ not-false _ (if2 .left)) (sym (not-null-broken .ensures) ∙ if3 .left) (sym (unique-broken .ensures) ∙ c .if4 .left)
+
+pub admits-spec : {M : Type 1} → statement M
+admits-spec =
+    tie.close
+    (tie.spec
+    is-full-requires
+    returns
+    image-live-requires
+    returns-2
+    not-null-broken-requires
+    returns-3
+    unique-broken-requires
+    returns-4
+    returns-5)

@@ -1,0 +1,37 @@
+use native.Mathlib.Omega.{arith}
+use borrow.Author.Needs.{needs}
+use Rattle.orphans.proofs.OrphanLaws.{child-stands, child-judged}
+use Rattle.orphans.proofs.is_orphan.Statement.{statement}
+use Rattle.orphans.proofs.is_orphan.Tie as tie
+
+mul-image-at : tie.Need-mul-image-at
+mul-image-at c =
+    let s = c .before .before in
+    let stands = child-stands _ _ _ (s .pre .0) _ (s .pre .1 .0) (s .args .j) (s .pre .1 .1) in
+    omega (arith, stands .within)
+
+add-image-at : tie.Need-add-image-at
+add-image-at c =
+    let s = c .before .before .before in
+    let stands = child-stands _ _ _ (s .pre .0) _ (s .pre .1 .0) (s .args .j) (s .pre .1 .1) in
+    omega (arith, stands .within)
+
+image-at-requires : tie.Need-image-at-requires
+image-at-requires c κs =
+    let s = c .before .before .before in
+    let stands = child-stands _ _ _ (s .pre .0) _ (s .pre .1 .0) (s .args .j) (s .pre .1 .1) in
+    (omega (arith, stands .within), stands .narrow)
+
+is-orphan-image-requires : tie.Need-is-orphan-image-requires
+is-orphan-image-requires c κs = search needs
+
+returns : tie.Need-returns
+returns c =
+    let image-at = c .before .before .before .image-at in
+    let s = c .before .before .before .before .before .before .before in
+    child-judged _ _ _ (s .pre .0) _ (s .pre .1 .0) (s .args .j) (s .pre .1 .1) (c .is-orphan-image .ensures) (image-at .ensures)
+
+pub is-orphan-spec : {M : Type 1} → statement M
+is-orphan-spec =
+    tie.close
+    (tie.spec mul-image-at add-image-at image-at-requires is-orphan-image-requires returns)

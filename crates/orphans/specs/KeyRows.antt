@@ -1,0 +1,14 @@
+-- The child rows of a foreign key, and the columns of its keys.
+-- Assumes nothing.
+use mathlib.Core.List.{List}
+use Prim.Native.Nat.{ℕ}
+use Rattle.schema.specs.Records.{keyOf}
+use Rattle.schema.specs.Fields.{schemaOf}
+use Rattle.rows.specs.Standing.{RowsOf}
+use Rattle.rows.specs.KeyColumns.{KeyColumns}
+use Rattle.orphans.specs.declared.KeyRows.{KeyRows}
+
+-- those of foreign key k
+pub record KeyRowsOf (b : List ℕ) (k : ℕ) (x : KeyRows) : Type 0 where
+  pub columns : KeyColumns b k (x .n) (x .cs) (x .ps)
+  pub children : RowsOf b (keyOf (schemaOf b) k .child) (x .children)

@@ -1,0 +1,71 @@
+// The orphans of a foreign key, found among its child rows.
+ghost use mathlib.Core.Path.{_≡_};
+ghost use mathlib.Core.List.{[]};
+ghost use Prim.Native.Nat.{_≤_, _<_};
+ghost use lib.ListN.{length, getD};
+ghost use Rattle.schema.specs.Records.{keyOf};
+ghost use Rattle.schema.specs.Fields.{schemaOf};
+ghost use Rattle.schema.specs.Check.{checkSchema};
+ghost use Rattle.rules.specs.Rows;
+ghost use Rattle.rules.specs.Keys;
+ghost use Rattle.bridge.specs.Fit.{workOf};
+ghost use Rattle.bridge.specs.Ready.{Ready};
+ghost use Rattle.orphans.specs.KeyRows.{KeyRowsOf};
+use rows::TableRows;
+use schema::SchemaAnswer;
+
+// The child rows of a foreign key, the n columns of its child key and those of its parent key.
+pub struct KeyRows {
+    pub children: TableRows,
+    pub n: usize,
+    pub cs: [usize; 8],
+    pub ps: [usize; 8],
+}
+
+// The child rows and the columns of foreign key k.
+pub fn key_rows(schema: &[u8], k: usize) -> KeyRows
+    requires { ⌜ (checkSchema (now schema) ≡ SchemaAnswer.Accepted) × (k < length (schemaOf (now schema) .keys)) ⌝ }
+    ensures { λ x. ⌜ KeyRowsOf (now (schema .entry)) k x ⌝ }
+{
+    let children = rows::rows_of(schema, fields::child(schema, k));
+    let n = fields::width(schema, k);
+    let cs = fields::child_columns(schema, k);
+    let ps = fields::parent_columns(schema, k);
+    KeyRows {
+        children: children,
+        n: n,
+        cs: cs,
+        ps: ps,
+    }
+}
+
+// Whether row j of foreign key k's child table is an orphan.
+pub fn is_orphan(schema: &[u8], area: &[i64], k: usize, key: KeyRows, j: usize) -> bool
+    requires { ⌜ Ready (now schema) (now area) × (KeyRowsOf (now schema) k key × (j < key .children .count)) ⌝ }
+    ensures { λ x. ⌜ x ≡ Keys.orphan (keyOf (schemaOf (now (schema .entry))) k) (getD (workOf (schemaOf (now (schema .entry))) (now (area .entry)) .tabs) (keyOf (schemaOf (now (schema .entry))) k .parent) []) (Rows.rowAt (keyOf (schemaOf (now (schema .entry))) k .child) j (workOf (schemaOf (now (schema .entry))) (now (area .entry)) .tabs)) ⌝ }
+{
+    let children = key.children;
+    let w = children.width;
+    let image = words::image_at(area, children.start + j * w, w);
+    let cs = key.cs;
+    let ps = key.ps;
+    constraints::is_orphan_image(schema, area, k, image, key.n, cs, ps)
+}
+
+// The orphans of foreign key k, counted from the rows.
+pub fn count_orphans(schema: &[u8], area: &[i64], k: usize) -> usize
+    requires { ⌜ Ready (now schema) (now area) × (k < length (schemaOf (now schema) .keys)) ⌝ }
+    ensures { λ x. ⌜ (x ≡ Keys.orphans (workOf (schemaOf (now (schema .entry))) (now (area .entry)) .tabs) (keyOf (schemaOf (now (schema .entry))) k)) × (x ≤ 1024) ⌝ }
+{
+    let key = key_rows(schema, k);
+    let rows = key.children.count;
+    let mut m = 0;
+    let mut j = 0;
+    while j < rows {
+        if is_orphan(schema, area, k, key, j) {
+            m += 1;
+        }
+        j += 1;
+    }
+    m
+}
