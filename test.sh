@@ -47,6 +47,8 @@ install_packages || stop "cargo, rustc, gcc, python3 and libsqlite3-dev are need
 log=$(mktemp) || stop "no temporary file can be made"
 trap 'rm -f "$log"' EXIT
 
+# rt starts a batch of jobs and waits for its slowest: twice as many jobs as processors keep them busy.
+export RT_JOBS=${RT_JOBS:-$((2 * $(nproc)))}
 counted rt ci || stop "rt ci failed: the tests were not run"
 rt staticlib capi || stop "rt staticlib capi failed: the tests were not run"
 

@@ -68,7 +68,7 @@ pub extern "C" fn hoofbook_call(schema: &[u8], area: &mut [i64], call: &[i64]) -
 pub extern "C" fn hoofbook_list_orphans(schema: &[u8], area: &[i64], list: &mut [Orphan]) -> Listed
     ensures { λ x. ⌜ ListsOrphans (now (schema .entry)) (now (area .entry)) (now (list .entry)) (now (list .exit)) x ⌝ }
 {
-    let plan = orphan_scan::plan_list(schema, area, list.len());
+    let plan = orphan_plan::plan_list(schema, area, list.len());
     let answer = plan.answer;
     let n = answer.count;
     let mut next = plan.first;

@@ -23,7 +23,7 @@ use Rattle.rows.specs.declared.TableRows.{TableRows}
 use Rattle.rows.specs.Standing.{rowsIn, RowsOf}
 use Rattle.rows.specs.KeyColumns.{KeyColumns}
 use Rattle.rows.proofs.TableLaws.{rows-are, parent-wide}
-use Rattle.scans.specs.WithKey.{withKey, withKeyAt}
+use Rattle.skips.specs.WithKey.{withKey, withKeyAt}
 use Rattle.scans.specs.FirstFrom.{FirstFrom}
 use Rattle.constraints.proofs.ServedLaws.{some-columns}
 use Rattle.change_parts.specs.Turns.{takesAt}

@@ -18,7 +18,7 @@ use Rattle.rules.specs.Change.{twice}
 use Rattle.rows.proofs.LoopLaws.{up-length, up-get}
 use Rattle.moves.specs.Movement.{except}
 use Rattle.moves.proofs.ExceptLaws.{any-cons}
-use Rattle.scans.specs.WithKey.{withKey}
+use Rattle.skips.specs.WithKey.{withKey}
 
 -- ---- a mask that is not 0 has a column
 

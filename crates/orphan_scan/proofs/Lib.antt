@@ -1,4 +1,3 @@
 -- What the proofs of several functions use.
 pub mod ScanLaws
-pub mod PlanLaws
 pub mod EachOnce

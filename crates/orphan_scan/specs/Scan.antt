@@ -3,20 +3,15 @@
 use mathlib.Core.Path.{_≡_}
 use mathlib.Core.Bool.{Bool, true, false}
 use mathlib.Core.List.{List, [], _∷_, _++_, map}
-use Prim.Native.Nat.{ℕ, suc, _≤_, _<_}
-use lib.IntN.{ℤ, pos}
+use Prim.Native.Nat.{ℕ, suc, _<_}
+use lib.IntN.{ℤ}
 use lib.ListN.{length, getD, drop}
 use Rattle.schema.specs.Records.{ForeignKey}
 use Rattle.schema.specs.Fields.{schemaOf}
 use Rattle.rules.specs.declared.Orphan.{Orphan}
-use Rattle.rules.specs.declared.Refusal.{Refusal}
-use Rattle.rules.specs.Refusals.{number}
 use Rattle.rules.specs.Rows.{Row, Tables}
 use Rattle.rules.specs.Keys.{orphan}
-use Rattle.rules.specs.OrphanList.{listAnswer}
 use Rattle.bridge.specs.Fit.{workOf}
-use Rattle.bridge.specs.Ready.{Ready}
-use Rattle.orphan_scan.specs.declared.Plan.{Plan}
 
 -- the numbers of the elements that pass, where the first element has number j
 unfoldable pub passing : {A : Type 0} → (A → Bool) → ℕ → List A → List ℕ
@@ -46,15 +41,3 @@ pub record FirstRow (p : Row → Bool) (rows : List Row) (from x : ℕ) : Type 0
 pub record FirstOf (bs : List ℕ) (ws : List ℤ) (l : List Orphan) (o : Orphan) : Type 0 where
   pub heads : 0 < length l → l ≡ o ∷ orphansAfter bs ws o
   pub small : o .row < 1024
-
--- the plan of a list: the answer; where it has orphans, they fit in the lent list, and the first is known
-pub record Planned (bs : List ℕ) (ws : List ℤ) (room : ℕ) (x : Plan) : Type 0 where
-  pub answer-is : x .answer ≡ listAnswer bs ws room
-  pub fits : x .answer .count ≤ room
-  pub ready : 0 < x .answer .count → Ready bs ws
-  pub first : 0 < x .answer .count → orphansFrom bs ws 0 0 ≡ x .first ∷ orphansAfter bs ws (x .first)
-  pub small : x .first .row < 1024
-
--- the plan where a check refuses
-abbrev pub refusedBy : Refusal → Plan
-refusedBy c = record { answer = record { code = pos (number c); count = 0 }; first = record { key = 0; row = 0 } }

@@ -18,7 +18,7 @@ use Rattle.rows.specs.declared.TableRows.{TableRows}
 use Rattle.rows.specs.Standing.{rowsIn}
 use Rattle.rows.proofs.LoopLaws.{any-none, any-hit}
 use Rattle.rows.proofs.TableLaws.{rows-many, row-get}
-use Rattle.scans.specs.WithKey.{withKey, withKeyAt}
+use Rattle.skips.specs.WithKey.{withKey, withKeyAt}
 use Rattle.scans.specs.FirstFrom.{FirstFrom}
 
 -- what a test of row j in the words comes to

@@ -1,3 +1,2 @@
 pub mod ScanLaws
-pub mod SkipLaws
 pub mod FirstLaws

@@ -19,7 +19,8 @@ use Rattle.bridge.specs.Ready.{rowIn}
 use Rattle.rows.specs.declared.TableRows.{TableRows}
 use Rattle.rows.specs.Standing.{Standing, rowsIn}
 use Rattle.rows.proofs.TableLaws.{rows-many, row-get}
-use Rattle.scans.specs.WithKey.{withKey, rowsBefore, rowsAfter}
+use Rattle.skips.specs.WithKey.{withKey}
+use Rattle.scans.specs.Parts.{rowsBefore, rowsAfter}
 
 pub with-key : (cs ds : List ℕ) (image row : Row) → live row && sameKey cs ds row image ≡ withKey cs ds image row
 unfolding withKey

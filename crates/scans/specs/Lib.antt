@@ -1,3 +1,2 @@
-pub mod WithKey
 pub mod FirstFrom
-pub mod Skipped
+pub mod Parts

@@ -55,18 +55,19 @@ use Rattle.rules.specs.declared.Orphan.{Orphan}
 use Rattle.rules.specs.declared.Listed.{Listed}
 use Rattle.rules.specs.OrphanList.{listAnswer, ListsOrphans}
 use Rattle.bridge.specs.Ready.{Ready}
-use Rattle.orphan_scan.specs.declared.Plan.{Plan}
-use Rattle.orphan_scan.specs.Scan.{orphansAfter, FirstOf, Planned}
+use Rattle.orphan_plan.specs.declared.Plan.{Plan}
+use Rattle.orphan_scan.specs.Scan.{orphansAfter, FirstOf}
+use Rattle.orphan_plan.specs.Planned.{Planned}
 use Rattle.rules.proofs.Orphan as T
 use Rattle.rules.proofs.Orphan.Laws as T′
 use Rattle.rules.proofs.Listed as S
 use Rattle.rules.proofs.Listed.Laws as S′
-use Rattle.orphan_scan.proofs.Plan as P
-use Rattle.orphan_scan.proofs.Plan.Laws as P′
-use Rattle.orphan_scan.proofs.plan_list as p
-use Rattle.orphan_scan.proofs.plan_list.Symbol as p-def
-use Rattle.orphan_scan.proofs.plan_list.Symbol.{name as #plan-list}
-use Rattle.orphan_scan.proofs.plan_list.Met as p-thm
+use Rattle.orphan_plan.proofs.Plan as P
+use Rattle.orphan_plan.proofs.Plan.Laws as P′
+use Rattle.orphan_plan.proofs.plan_list as p
+use Rattle.orphan_plan.proofs.plan_list.Symbol as p-def
+use Rattle.orphan_plan.proofs.plan_list.Symbol.{name as #plan-list}
+use Rattle.orphan_plan.proofs.plan_list.Met as p-thm
 use Rattle.orphan_scan.proofs.next_orphan as g
 use Rattle.orphan_scan.proofs.next_orphan.Symbol as g-def
 use Rattle.orphan_scan.proofs.next_orphan.Symbol.{name as #next-orphan}
@@ -553,5 +554,5 @@ hoofbook-list-orphans-spec 𝓤 H 𝓜 𝓖 𝓡 =
     entered 𝓤 H (tripleOf 𝓤 H (𝓖 .A) f.signature (f.spec 𝓤 H (𝓖 .A) (𝓜 .mem) (𝓡 .run)))
     (tables 𝓤 H 𝓜 𝓡 code.env .C) (tables 𝓤 H 𝓜 𝓡 code.env .Λ) #hoofbook-list-orphans code.function (code.unfolded 𝓤 H 𝓜 𝓡)
     (hoofbook-list-orphans-meets 𝓤 H (𝓖 .A) (givenOf 𝓤 H 𝓜 𝓖) (𝓜 .mem) (𝓡 .run) (tablesOf 𝓤 H 𝓜 (tables 𝓤 H 𝓜 𝓡 code.env))
-    (cited 𝓤 H (PlanList 𝓤 H (𝓖 .A) (𝓜 .mem) (𝓡 .run)) 𝓜 𝓡 code.env #plan-list p-def.routine code.calls-orphan-scan·plan-list (p-thm.met 𝓤 H 𝓜 𝓖 𝓡))
+    (cited 𝓤 H (PlanList 𝓤 H (𝓖 .A) (𝓜 .mem) (𝓡 .run)) 𝓜 𝓡 code.env #plan-list p-def.routine code.calls-orphan-plan·plan-list (p-thm.met 𝓤 H 𝓜 𝓖 𝓡))
     (cited 𝓤 H (NextOrphan 𝓤 H (𝓖 .A) (𝓜 .mem) (𝓡 .run)) 𝓜 𝓡 code.env #next-orphan g-def.routine code.calls-orphan-scan·next-orphan (g-thm.met 𝓤 H 𝓜 𝓖 𝓡)))

@@ -3,7 +3,7 @@ use Prim.Native.Nat.{_+_}
 use native.Mathlib.Omega.{arith}
 use borrow.Author.Needs.{needs}
 use lib.ListN.{take}
-use Rattle.scans.specs.WithKey.{withKey}
+use Rattle.skips.specs.WithKey.{withKey}
 use Rattle.scans.proofs.ScanLaws.{before-ready, after-ready, count-parts, parts-few}
 use Rattle.scans.proofs.count_others_with_key.Statement.{statement}
 use Rattle.scans.proofs.count_others_with_key.Tie as tie

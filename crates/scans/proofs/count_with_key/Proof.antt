@@ -9,8 +9,8 @@ use Rattle.rows.specs.Standing.{rowsIn}
 use Rattle.rows.proofs.CellLaws.{widen}
 use Rattle.rows.proofs.LoopLaws.{count-none, count-more}
 use Rattle.rows.proofs.TableLaws.{rows-many, row-get, row-at}
-use Rattle.scans.specs.WithKey.{withKey}
-use Rattle.scans.proofs.SkipLaws.{sought-within, count-skipped}
+use Rattle.skips.specs.WithKey.{withKey}
+use Rattle.skips.proofs.SkipLaws.{sought-within, count-skipped}
 use Rattle.scans.proofs.count_with_key.Statement.{statement}
 use Rattle.scans.proofs.count_with_key.Tie as tie
 

@@ -6,8 +6,8 @@ use lib.ListN.{take}
 use Rattle.rows.specs.Standing.{rowsIn}
 use Rattle.rows.proofs.CellLaws.{widen}
 use Rattle.rows.proofs.TableLaws.{row-at}
-use Rattle.scans.specs.WithKey.{withKeyAt}
-use Rattle.scans.proofs.SkipLaws.{sought-within, passed}
+use Rattle.skips.specs.WithKey.{withKeyAt}
+use Rattle.skips.proofs.SkipLaws.{sought-within, passed}
 use Rattle.scans.proofs.FirstLaws.{tested, none-more, first-stop, first-none}
 use Rattle.scans.proofs.first_with_key.Statement.{statement}
 use Rattle.scans.proofs.first_with_key.Tie as tie

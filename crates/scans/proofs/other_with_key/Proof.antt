@@ -1,7 +1,7 @@
 use mathlib.Core.Path.{sym, _∙_}
 use borrow.Author.Needs.{needs}
 use lib.ListN.{take}
-use Rattle.scans.specs.WithKey.{withKey}
+use Rattle.skips.specs.WithKey.{withKey}
 use Rattle.scans.proofs.ScanLaws.{before-ready, after-ready, any-before, any-after}
 use Rattle.scans.proofs.other_with_key.Statement.{statement}
 use Rattle.scans.proofs.other_with_key.Tie as tie

@@ -3,7 +3,7 @@ use Prim.Native.Nat.{suc, _+_}
 use native.Mathlib.Omega.{arith}
 use borrow.Author.Needs.{needs}
 use Rattle.rows.proofs.TableLaws.{row-at}
-use Rattle.scans.specs.WithKey.{rowsAfter}
+use Rattle.scans.specs.Parts.{rowsAfter}
 use Rattle.scans.proofs.rows_after.Statement.{statement}
 use Rattle.scans.proofs.rows_after.Tie as tie
 

@@ -1,5 +1,5 @@
 use mathlib.Core.Path.{refl}
-use Rattle.scans.specs.WithKey.{rowsBefore}
+use Rattle.scans.specs.Parts.{rowsBefore}
 use Rattle.scans.proofs.rows_before.Statement.{statement}
 use Rattle.scans.proofs.rows_before.Tie as tie
 

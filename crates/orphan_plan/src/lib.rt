@@ -1,0 +1,92 @@
+// The checks of the orphan list, how many orphans there are, and the first.
+ghost use mathlib.Core.Path.{_≡_};
+ghost use Prim.Native.Nat.{_<_};
+ghost use Rattle.schema.specs.Fields.{schemaOf};
+ghost use Rattle.schema.specs.Check.{checkSchema};
+ghost use Rattle.rules.specs.OrphanList.{orphanTotal};
+ghost use Rattle.bridge.specs.Fit.{workOf};
+ghost use Rattle.bridge.specs.Ready.{Ready, Sound};
+ghost use Rattle.orphan_plan.specs.Planned.{Planned, refusedBy};
+use rules::Listed;
+use rules::Orphan;
+use rules::Refusal;
+use schema::SchemaAnswer;
+
+// What is found before the list is written: the answer, and the first orphan where there is one.
+pub struct Plan {
+    pub answer: Listed,
+    pub first: Orphan,
+}
+
+// The number of orphans of all foreign keys.
+fn orphan_total(schema: &[u8], area: &[i64]) -> usize
+    requires { ⌜ Ready (now schema) (now area) ⌝ }
+    ensures { λ x. ⌜ x ≡ orphanTotal (schemaOf (now (schema .entry)) .keys) (workOf (schemaOf (now (schema .entry))) (now (area .entry)) .tabs) ⌝ }
+{
+    let n = fields::key_count(schema);
+    let mut total = 0;
+    let mut k = 0;
+    while k < n {
+        total += orphans::count_orphans(schema, area, k);
+        k += 1;
+    }
+    total
+}
+
+// The plan where the list is refused.
+fn refused(refusal: Refusal) -> Plan
+    ensures { λ x. ⌜ x ≡ refusedBy refusal ⌝ }
+{
+    let code = answers::refusal_number(refusal);
+    Plan {
+        answer: Listed {
+            code: code,
+            count: 0,
+        },
+        first: Orphan { key: 0, row: 0 },
+    }
+}
+
+// The plan for a lent list of `room` records: refusal 22.
+fn plan_rows(schema: &[u8], area: &[i64], room: usize) -> Plan
+    requires { ⌜ Sound (now schema) (now area) ⌝ }
+    ensures { λ x. ⌜ Planned (now (schema .entry)) (now (area .entry)) room x ⌝ }
+{
+    let total = orphan_total(schema, area);
+    if room < total {
+        return refused(Refusal::ListTooShort);
+    }
+    let first = orphan_scan::first_from(schema, area, 0, 0);
+    Plan {
+        answer: Listed {
+            code: 0,
+            count: total,
+        },
+        first: first,
+    }
+}
+
+// The plan under an accepted schema: refusals 3, 10 and 22.
+fn plan_area(schema: &[u8], area: &[i64], room: usize) -> Plan
+    requires { ⌜ checkSchema (now schema) ≡ SchemaAnswer.Accepted ⌝ }
+    ensures { λ x. ⌜ Planned (now (schema .entry)) (now (area .entry)) room x ⌝ }
+{
+    if area.len() != fields::area_length(schema) {
+        return refused(Refusal::WrongLength);
+    }
+    if !area_form::is_undamaged(schema, area) {
+        return refused(Refusal::Damaged);
+    }
+    plan_rows(schema, area, room)
+}
+
+// The plan: refusals 1, 2, 3, 10 and 22.
+pub fn plan_list(schema: &[u8], area: &[i64], room: usize) -> Plan
+    ensures { λ x. ⌜ Planned (now (schema .entry)) (now (area .entry)) room x ⌝ }
+{
+    match schema_check::check_schema(schema) {
+        SchemaAnswer::Malformed => refused(Refusal::SchemaMalformed),
+        SchemaAnswer::Unmatched => refused(Refusal::SchemaUnmatched),
+        SchemaAnswer::Accepted => plan_area(schema, area, room),
+    }
+}

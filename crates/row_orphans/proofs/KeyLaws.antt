@@ -1,0 +1,135 @@
+-- One foreign key: the row itself, the rows that it strands, and the scans that find them.
+-- Assumes nothing.
+use mathlib.Core.Path.{_≡_, refl, sym, ap, ap₂, _∙_}
+use mathlib.Core.Bool.{Bool, true, false, not, _&&_}
+use mathlib.Core.List.{List, []}
+use Prim.Native.Nat.{ℕ, _≤_, _<_}
+use native.Mathlib.Omega.{arith}
+use borrow.Author.Tests.{eq-eqb, ne-eqb}
+use lib.Dec.{eqb, eqb→eq}
+use lib.IntN.{ℤ}
+use lib.ListN.{length, getD, take}
+use Rattle.schema.specs.Bounds.{Columns}
+use Rattle.schema.specs.Records.{ForeignKey, keyOf}
+use Rattle.schema.specs.Fields.{schemaOf}
+use Rattle.schema.proofs.RangeLaws.{and-left}
+use Rattle.schema.proofs.FieldLaws.{same-width}
+use Rattle.rules.specs.Lists.{any, count, one}
+use Rattle.rules.specs.Rows.{Row, Tables, live}
+use Rattle.rules.specs.Keys.{sameKey, mapsTo, orphan, takes, sameParentKey, fires}
+use Rattle.bridge.specs.Fit.{workOf}
+use Rattle.bridge.specs.Ready.{Placed}
+use Rattle.bridge.proofs.Tests.{holds}
+use Rattle.rows.specs.declared.TableRows.{TableRows}
+use Rattle.rows.specs.Standing.{Standing, RowsOf, rowsIn}
+use Rattle.rows.specs.KeyColumns.{KeyColumns}
+use Rattle.rows.proofs.TableLaws.{child-table, parent-wide, parent-in, standing, rows-are}
+use Rattle.skips.specs.WithKey.{withKey}
+use Rattle.constraints.proofs.ServedLaws.{some-columns}
+use Rattle.moves.specs.Movement.{pick, except, exceptIf, ownOrphan, strandedRows}
+use Rattle.moves.proofs.Taken.{stranded-rows}
+use Rattle.row_orphans.specs.RowOrphans.{takenRows, hasTwin}
+
+-- ---- the row itself
+module _ (k : ForeignKey) (t : ℕ) (x : Row) (tabs : Tables) where
+  pub own-other : (k .child ≡ t → ⊥) → 0 ≡ ownOrphan k t x tabs
+  unfolding ownOrphan pick
+  own-other h = sym (rw (ne-eqb (k .child) t h))
+
+  pub own-is : k .child ≡ t → {b : Bool} → orphan k (getD tabs (k .parent) []) x ≡ b → one b ≡ ownOrphan k t x tabs
+  unfolding ownOrphan pick
+  own-is h e = sym (rw (eq-eqb (k .child) t h, e))
+
+-- ---- the rows that it strands
+module _ (k : ForeignKey) (same : length (k .parentColumns) ≡ length (k .childColumns)) (t r : ℕ) (x y : Row) (tabs : Tables) where
+  by-tests : strandedRows k t r x y tabs ≡ pick (fires y t x k && not (hasTwin k r x tabs)) (takenRows k t r x tabs)
+  unfolding hasTwin takenRows
+  by-tests = stranded-rows k (sym same) t r x y tabs
+
+  pub none-fires : fires y t x k ≡ false → 0 ≡ strandedRows k t r x y tabs
+  unfolding pick
+  none-fires h = sym (by-tests ∙ ap (λ b. pick (b && not (hasTwin k r x tabs)) (takenRows k t r x tabs)) h)
+
+  pub none-taken : takenRows k t r x tabs ≡ 0 → 0 ≡ strandedRows k t r x y tabs
+  unfolding pick
+  none-taken h = sym (by-tests ∙ ap (pick (fires y t x k && not (hasTwin k r x tabs))) h ∙ pick-none (fires y t x k && not (hasTwin k r x tabs)))
+    where
+      pick-none : (b : Bool) → pick b 0 ≡ 0
+      pick-none true = refl
+      pick-none false = refl
+
+  pub twin-serves : hasTwin k r x tabs ≡ true → 0 ≡ strandedRows k t r x y tabs
+  unfolding pick
+  twin-serves h = sym (by-tests ∙ ap (λ b. pick (fires y t x k && not b) (takenRows k t r x tabs)) h ∙ never (fires y t x k))
+    where
+      never : (b : Bool) → pick (b && false) (takenRows k t r x tabs) ≡ 0
+      never true = refl
+      never false = refl
+
+  pub all-stranded : fires y t x k ≡ true → hasTwin k r x tabs ≡ false → takenRows k t r x tabs ≡ strandedRows k t r x y tabs
+  unfolding pick
+  all-stranded h e = sym (by-tests ∙ ap₂ (λ a b. pick (a && not b) (takenRows k t r x tabs)) h e)
+
+pub fires-parent : (k : ForeignKey) (t : ℕ) (x y : Row) → fires y t x k ≡ true → k .parent ≡ t
+unfolding fires
+fires-parent k t x y h = eqb→eq (k .parent) t (holds (and-left (eqb (k .parent) t) _ h))
+
+-- ---- the scans
+module _ (b : List ℕ) (a : List ℤ) (k t r n : ℕ) (cs ps : List ℕ) (h : Placed b a t r) (c : KeyColumns b k n cs ps) where
+  abbrev K : ForeignKey
+  K = keyOf (schemaOf b) k
+
+  abbrev tabs : Tables
+  tabs = workOf (schemaOf b) a .tabs
+
+  pub same-columns : length (keyOf (schemaOf b) k .parentColumns) ≡ length (keyOf (schemaOf b) k .childColumns)
+  same-columns = same-width b (c .accepted) k (c .key)
+
+  takes-with : (x : Row) → withKey (take n cs) (take n ps) x ≡ takes (keyOf (schemaOf b) k) x
+  unfolding withKey takes mapsTo
+  takes-with x = λ i row. live row && sameKey (c .child-is i) (c .parent-is i) row x
+
+  twin-with : (x : Row) → withKey (take n ps) (take n ps) x ≡ sameParentKey (keyOf (schemaOf b) k) x
+  unfolding withKey sameParentKey
+  twin-with x = λ i row. live row && sameKey (c .parent-is i) (c .parent-is i) row x
+
+  -- the child rows
+  module _ {p : ℕ} (e : p ≡ keyOf (schemaOf b) k .child) (rows : TableRows) (o : RowsOf b p rows) where
+    child-there : p < length (schemaOf b .tables)
+    child-there = rw e (child-table b (c .accepted) k (c .key))
+
+    pub children-stand : Standing a rows
+    children-stand = standing b a (h .ready) p child-there rows o
+
+    pub children-columns : (1 ≤ n) × (Columns (rows .width) n cs × Columns 9 n ps)
+    children-columns = (some-columns b k n cs ps c, (rw (o .width-is, e) (c .child-within), parent-wide b k n cs ps c))
+
+    pub children-few : {m : ℕ} → m ≤ rows .count → m ≤ 1024
+    children-few l = omega (arith, l, children-stand .few)
+
+    children-are : rowsIn a rows ≡ getD (workOf (schemaOf b) a .tabs) (keyOf (schemaOf b) k .child) []
+    children-are = rows-are b a (h .ready) p child-there rows o ∙ ap (λ q. getD tabs q []) e
+
+    pub row-below : p ≡ t → r < rows .count
+    row-below f = rw (o .count-is, f) (h .row)
+
+    pub taken-others : p ≡ t → (x : Row) → count (withKey (take n cs) (take n ps) x) (except r (rowsIn a rows)) ≡ takenRows (keyOf (schemaOf b) k) t r x (workOf (schemaOf b) a .tabs)
+    unfolding takenRows exceptIf
+    taken-others f x = rw (eq-eqb (K .child) t (sym e ∙ f)) (ap₂ (λ q l. count q (except r l)) (takes-with x) children-are)
+
+    pub taken-all : (p ≡ t → ⊥) → (x : Row) → count (withKey (take n cs) (take n ps) x) (rowsIn a rows) ≡ takenRows (keyOf (schemaOf b) k) t r x (workOf (schemaOf b) a .tabs)
+    unfolding takenRows exceptIf
+    taken-all f x = rw (ne-eqb (K .child) t (λ q. f (e ∙ q))) (ap₂ (λ q l. count q l) (takes-with x) children-are)
+
+  -- the parent rows
+  module _ (e : keyOf (schemaOf b) k .parent ≡ t) (rows : TableRows) (o : RowsOf b t rows) where
+    pub parents-stand : Standing a rows × (r < rows .count)
+    parents-stand = (standing b a (h .ready) t (h .table) rows o, rw (o .count-is) (h .row))
+
+    pub parents-columns : (1 ≤ n) × (Columns (rows .width) n ps × Columns 9 n ps)
+    parents-columns = (some-columns b k n cs ps c, (parent-in b k n cs ps c (sym e) o, parent-wide b k n cs ps c))
+
+    pub twin-is : (x : Row) → any (withKey (take n ps) (take n ps) x) (except r (rowsIn a rows)) ≡ hasTwin (keyOf (schemaOf b) k) r x (workOf (schemaOf b) a .tabs)
+    unfolding hasTwin
+    twin-is x =
+        ap₂ (λ q l. any q (except r l)) (twin-with x) (rows-are b a (h .ready) t (h .table) rows o ∙ ap (λ q. getD tabs q []) (sym e))

@@ -1,0 +1,67 @@
+use mathlib.Core.Path.{sym, _∙_, ap₂}
+use Prim.Native.Nat.{_+_}
+use native.Mathlib.Omega.{arith}
+use borrow.Author.Tests.{not-true}
+use Rattle.schema.specs.Records.{keyOf}
+use Rattle.schema.specs.Fields.{schemaOf}
+use Rattle.bridge.specs.Fit.{workOf}
+use Rattle.rows.proofs.TableLaws.{key-columns}
+use Rattle.row_orphans.specs.RowOrphans.{rowOrphans}
+use Rattle.row_orphans.proofs.CountLaws.{untouched-none}
+use borrow.Author.Needs.{needs}
+use Rattle.row_orphans.proofs.key_orphans.Statement.{statement}
+use Rattle.row_orphans.proofs.key_orphans.Tie as tie
+
+touches-requires : tie.Need-touches-requires
+touches-requires c κs = search needs
+
+returns : tie.Need-returns
+returns c =
+    let a = c .before .before .before .args in
+    let k = keyOf (schemaOf (a .schema .now)) (a .k) in
+    (untouched-none (a .t) (a .r) (a .x) (a .y) (workOf (schemaOf (a .schema .now)) (a .area .now) .tabs) k (sym (c .before .touches .ensures) ∙ not-true _ (c .if1 .taken)), omega arith)
+
+width-requires : tie.Need-width-requires
+width-requires c κs = search needs
+
+child-columns-requires : tie.Need-child-columns-requires
+child-columns-requires c κs = search needs
+
+parent-columns-requires : tie.Need-parent-columns-requires
+parent-columns-requires c κs = search needs
+
+own-orphan-requires : tie.Need-own-orphan-requires
+own-orphan-requires c κs =
+    let s = c .before .before .before .before .before .before in
+    let read = key-columns (s .args .schema .now) (s .pre .0 .ready .accepted) (s .args .k) (s .pre .1) (c .before .before .width .ensures .0) in
+    (s .pre .0 .ready, read (c .parent-columns .result) (c .parent-columns .ensures) (c .before .child-columns .result) (c .before .child-columns .ensures))
+
+stranded-rows-requires : tie.Need-stranded-rows-requires
+stranded-rows-requires c κs =
+    let s = c .before .before .before .before .before .before .before in
+    let read = key-columns (s .args .schema .now) (s .pre .0 .ready .accepted) (s .args .k) (s .pre .1) (c .before .before .before .width .ensures .0) in
+    (s .pre .0, read (c .before .parent-columns .result) (c .before .parent-columns .ensures) (c .before .before .child-columns .result) (c .before .before .child-columns .ensures))
+
+add-result : tie.Need-add-result
+add-result c = search needs
+
+returns-2 : tie.Need-returns-2
+unfolding rowOrphans
+returns-2 c =
+    let stranded = c .stranded-rows .ensures in
+    let own = c .before .own-orphan .ensures in
+    (ap₂ (λ m n. m + n) (stranded .0) (own .0), omega (arith, stranded .1, own .1))
+
+pub key-orphans-spec : {M : Type 1} → statement M
+key-orphans-spec =
+    tie.close
+    (tie.spec
+    touches-requires
+    returns
+    width-requires
+    child-columns-requires
+    parent-columns-requires
+    own-orphan-requires
+    stranded-rows-requires
+    add-result
+    returns-2)

@@ -1,0 +1,92 @@
+use mathlib.Core.Path.{_≡_, ap, _∙_}
+use mathlib.Core.List.{List}
+use Prim.Native.Nat.{_-_, _<_, _≤_}
+use native.Mathlib.Nat.{zero-add}
+use native.Mathlib.Omega.{arith}
+use borrow.Author.Needs.{needs}
+use lib.IntN.{ℤ, pos}
+use lib.ListN.{length, getD, take, replicate, length-set}
+use lib.Seq.{sets}
+use mir.Syntax.{w64}
+use mir.Val.{toZ, ofZ}
+use Rattle.schema.specs.Fields.{schemaOf}
+use Rattle.schema.specs.Records.{Schema, keyOf}
+use Rattle.rules.specs.Rows.{Tables}
+use Rattle.bridge.specs.Fit.{workOf}
+use Rattle.words.proofs.Signed.{back}
+use Rattle.words.proofs.Splice.{sets-more}
+use Rattle.row_orphans.specs.RowOrphans.{rowOrphans}
+use Rattle.row_orphans.proofs.CountLaws.{rowList, list-length, list-at, list-filled}
+use Rattle.row_orphans.proofs.row_counts.Statement.{statement}
+use Rattle.row_orphans.proofs.row_counts.Tie as tie
+
+abbrev Inv-loop : tie.InvT-loop
+Inv-loop schema area t r x y counts₀ n k₀ counts k = (k ≤ n) × ((length counts ≡ 32) × (counts ≡ sets (replicate 32 (pos 0)) 0 (take k (rowList (schemaOf schema) t r x y (workOf (schemaOf schema) area .tabs)))))
+
+abbrev μ-loop : tie.MeasureT-loop
+μ-loop schema area t r x y counts₀ n k₀ counts k = n - k
+
+key-count-requires : tie.Need-key-count-requires Inv-loop μ-loop
+key-count-requires c κs = search needs
+
+loop-holds : tie.Need-loop-holds Inv-loop μ-loop
+loop-holds c = search needs
+
+key-orphans-requires : tie.Need-key-orphans-requires Inv-loop μ-loop
+key-orphans-requires c κs = search needs
+
+word-of-requires : tie.Need-word-of-requires Inv-loop μ-loop
+word-of-requires c κs = search needs
+
+mul-counts : tie.Need-mul-counts Inv-loop μ-loop
+mul-counts c = search needs
+
+array-set-from-counts : tie.Need-array-set-from-counts Inv-loop μ-loop
+array-set-from-counts c = search needs
+
+add-k : tie.Need-add-k Inv-loop μ-loop
+add-k c = search needs
+
+loop-less : tie.Need-loop-less Inv-loop μ-loop
+loop-less c = search needs
+
+loop-again : tie.Need-loop-again Inv-loop μ-loop
+loop-again c =
+    let a = c .before .before .before .before .before .before .args in
+    let s : Schema = schemaOf (a .schema .now) in
+    let tabs : Tables = workOf s (a .area .now) .tabs in
+    let list : List ℤ = rowList s (a .t) (a .r) (a .x) (a .y) tabs in
+    let l = c .before .before .before .loop in
+    let lt : l .k < length (s .keys) = omega (arith, c .before .before .before .before .key-count .ensures .0) in
+    let e : toZ w64 (ofZ w64 (c .word-of .result)) ≡ getD list (l .k) (pos 0)
+    = back _ (c .word-of .ok)
+    ∙ c .word-of .ensures
+    ∙ ap pos {y = rowOrphans (keyOf s (l .k)) (a .t) (a .r) (a .x) (a .y) tabs} (c .before .key-orphans .ensures .0)
+    ∙ list-at s (a .t) (a .r) (a .x) (a .y) tabs (l .k) lt in
+    let more = sets-more (replicate 32 (pos 0)) list 0 (l .k) (pos 0) (omega (arith, list-length s (a .t) (a .r) (a .x) (a .y) tabs)) (l .inv .1 .1) in
+    (search needs, (simp length-set (l .inv .1 .0), rw e (rw (zero-add (l .k)) at more)))
+
+returns : tie.Need-returns Inv-loop μ-loop
+returns c =
+    let a = c .before .before .before .before .args in
+    let s : Schema = schemaOf (a .schema .now) in
+    let n = c .before .before .key-count .ensures in
+    let l = c .before .loop in
+    l .inv .1 .1 ∙ list-filled s (omega (arith, n)) (a .t) (a .r) (a .x) (a .y) (workOf s (a .area .now) .tabs) (l .k) (omega (arith, n .0, c .loop-test .left))
+
+pub row-counts-spec : {M : Type 1} → statement M
+row-counts-spec =
+    tie.close
+    (tie.spec
+    Inv-loop
+    μ-loop
+    key-count-requires
+    loop-holds
+    key-orphans-requires
+    word-of-requires
+    mul-counts
+    array-set-from-counts
+    add-k
+    loop-less
+    loop-again
+    returns)

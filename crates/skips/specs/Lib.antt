@@ -1,0 +1,2 @@
+pub mod WithKey
+pub mod Skipped
