@@ -45,7 +45,8 @@ install_packages() {
 command -v rt >/dev/null || stop "rt is not on the PATH: the Rattle kit is needed"
 install_packages || stop "cargo, rustc, gcc, python3 and libsqlite3-dev are needed, and apt-get could not install them"
 log=$(mktemp) || stop "no temporary file can be made"
-trap 'rm -f "$log"' EXIT
+beside=$(mktemp) || stop "no temporary file can be made"
+trap 'rm -f "$log" "$beside"' EXIT
 
 # rt starts a batch of jobs and waits for its slowest: twice as many jobs as processors keep them busy.
 export RT_JOBS=${RT_JOBS:-$((2 * $(nproc)))}
@@ -54,7 +55,11 @@ rt staticlib capi || stop "rt staticlib capi failed: the tests were not run"
 
 export CARGO_TARGET_DIR=$PWD/target/tests CARGO_HOME=$PWD/target/tests/home
 (cd tests && cargo build --release --offline --locked) || stop "the tests were not built"
-counted target/tests/release/hoofbook-tests || stop "the tests failed"
+# The suite of mistaken engines takes as long as all others: it runs beside them.
+target/tests/release/hoofbook-tests mistakes >"$beside" 2>&1 &
+counted target/tests/release/hoofbook-tests -mistakes || stop "the tests failed"
+wait
+counted cat "$beside" || stop "the tests of mistaken engines failed"
 counted examples/test_kit.sh || stop "the C example failed"
 counted python3 tools/test_tools.py || stop "the tests of the tools failed"
 

@@ -30,7 +30,17 @@ fn seed() -> Result<u64, String> {
     }
 }
 
-/// Runs the suites named as arguments, or all. The argument `edge-cases` prints that text instead.
+/// Whether a suite is asked for: it is named, or no suite is; and it is not named after a minus.
+fn wanted(suite: &str, words: &[String]) -> bool {
+    let (out, named): (Vec<&str>, Vec<&str>) = words
+        .iter()
+        .map(String::as_str)
+        .partition(|word| word.starts_with('-'));
+    (named.is_empty() || named.contains(&suite)) && !out.iter().any(|word| &word[1..] == suite)
+}
+
+/// Runs the suites named as arguments, or all, without those named after a minus.
+/// The argument `edge-cases` prints that text instead.
 fn main() -> ExitCode {
     let names: Vec<String> = std::env::args().skip(1).collect();
     if names == ["edge-cases"] {
@@ -47,7 +57,7 @@ fn main() -> ExitCode {
     println!("SEED={}", seed);
     let mut report = Report::default();
     for (name, suite) in suites::ALL {
-        if names.is_empty() || names.iter().any(|n| n == name) {
+        if wanted(name, &names) {
             suite(&mut Random::new(seed), &mut report);
         }
     }

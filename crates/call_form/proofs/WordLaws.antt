@@ -14,29 +14,11 @@ use lib.ListN.{length, getD, drop, drop-of-length-le}
 use lib.Pow.{pow-pos}
 use lib.Seq.{drop-cons}
 use Rattle.schema.specs.Bytes.{bit}
-use Rattle.schema.specs.Ranges.{all}
 use Rattle.rules.specs.Lists.{𝟘}
-use Rattle.rules.specs.Values.{sameValue, sameValues, allZero}
+use Rattle.rules.specs.Values.{sameValue, sameValues}
 use Rattle.rules.specs.Rows.{held}
-use Rattle.bridge.proofs.Tests.{all-yes, all-no}
 use Rattle.bridge.proofs.Bits.{same-refl}
 use Rattle.call_form.specs.Requests.{valueFits}
-
--- ---- words that are 0
-
-module _ (ws : List ℤ) (i : ℕ) where
-  pub zero-none : length ws ≤ i → allZero (drop i ws) ≡ true
-  unfolding allZero all
-  zero-none h = rw (drop-of-length-le ws h) refl
-
-  module _ (h : i < length ws) where
-    pub zero-stop : sameValue 𝟘 (getD ws i 𝟘) ≡ false → allZero (drop i ws) ≡ false
-    unfolding allZero
-    zero-stop e = ap (all (sameValue 𝟘)) (drop-cons ws i 𝟘 h) ∙ all-no (sameValue 𝟘) (getD ws i 𝟘) (drop (suc i) ws) e
-
-    pub zero-go : sameValue 𝟘 (getD ws i 𝟘) ≡ true → allZero (drop i ws) ≡ allZero (drop (i + 1) ws)
-    unfolding allZero
-    zero-go e = rw (add-one i) (ap (all (sameValue 𝟘)) (drop-cons ws i 𝟘 h) ∙ all-yes (sameValue 𝟘) (getD ws i 𝟘) (drop (suc i) ws) e)
 
 -- ---- a mask
 

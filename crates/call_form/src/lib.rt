@@ -31,21 +31,6 @@ pub enum Request {
 
 // ---- the words of a call
 
-// Whether the words from `from` on are all 0.
-fn all_zero_from(call: &[i64], from: usize) -> bool
-    ensures { λ r. ⌜ r ≡ allZero (drop from (now (call .entry))) ⌝ }
-{
-    let n = call.len();
-    let mut i = from;
-    while i < n {
-        if !words::is_zero_at(call, i) {
-            return false;
-        }
-        i += 1;
-    }
-    true
-}
-
 // Whether a mask has no bit at `columns` or above.
 fn is_mask(m: usize, columns: usize) -> bool
     requires { ⌜ columns < 64 ⌝ }
@@ -87,7 +72,7 @@ fn row_fits(schema: &[u8], call: &[i64], t: usize) -> bool
 {
     let columns = fields::columns(schema, t);
     let m = words::nat_at(call, 3);
-    is_mask(m, columns) & all_zero_from(call, 4 + columns) & values_fit(call, m)
+    is_mask(m, columns) & words::all_zero_from(call, 4 + columns) & values_fit(call, m)
 }
 
 // Whether words 1 and 2 are a table and a row of it.
@@ -127,7 +112,7 @@ fn names_level(call: &[i64]) -> bool
     ensures { λ r. ⌜ r ≡ namesLevel (now (call .entry)) ⌝ }
 {
     let a = words::nat_at(call, 1);
-    words::is_natural_at(call, 1) & all_zero_from(call, 2) & is_level(a)
+    words::is_natural_at(call, 1) & words::all_zero_from(call, 2) & is_level(a)
 }
 
 // ---- the kinds of calls
@@ -159,7 +144,7 @@ fn read_delete(schema: &[u8], call: &[i64]) -> Request
     requires { ⌜ TwelveWords (now schema) (now call) ⌝ }
     ensures { λ r. ⌜ callOf r (now (call .entry)) ≡ judged (schemaOf (now (schema .entry))) (parsed 3 (now (call .entry))) ⌝ }
 {
-    if !(names_row(schema, call) & all_zero_from(call, 3)) {
+    if !(names_row(schema, call) & words::all_zero_from(call, 3)) {
         return Request::Malformed;
     }
     Request::Delete(words::nat_at(call, 1), words::nat_at(call, 2))
@@ -191,7 +176,7 @@ fn read_rollback_to(call: &[i64]) -> Request
 fn read_bare(call: &[i64], request: Request) -> Request
     ensures { λ r. ⌜ callOf r (now (call .entry)) ≡ formedIf (allZero (drop 1 (now (call .entry)))) (callOf request (now (call .entry))) ⌝ }
 {
-    if !all_zero_from(call, 1) {
+    if !words::all_zero_from(call, 1) {
         return Request::Malformed;
     }
     request

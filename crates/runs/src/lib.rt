@@ -2,7 +2,6 @@
 ghost use mathlib.Core.Path.{_≡_};
 ghost use Prim.Native.Nat.{_+_, _*_, _-_, _≤_};
 ghost use lib.ListN.{length};
-ghost use Rattle.rules.specs.Values.{allZero};
 ghost use Rattle.engine.specs.Calls.{callWords};
 ghost use Rattle.runs.specs.Runs.{ReachedIf, least, callsRun, oneRun, runCalls};
 
@@ -17,22 +16,6 @@ fn call_end(words: usize, from: usize) -> usize
     words
 }
 
-// Whether every word of an area is zero.
-fn is_blank(area: &[i64]) -> bool
-    ensures { λ x. ⌜ x ≡ allZero (now (area .entry)) ⌝ }
-{
-    let n = area.len();
-    let mut i = 0;
-    while i < n {
-        let v = area[i];
-        if !words::same_word(0, v) {
-            return false;
-        }
-        i += 1;
-    }
-    true
-}
-
 // Whether the schema is accepted and the area a fresh one for it.
 fn is_fresh(schema: &[u8], area: &[i64]) -> bool
     ensures { λ x. ⌜ ReachedIf x (now (schema .entry)) (now (area .entry)) ⌝ }
@@ -44,7 +27,7 @@ fn is_fresh(schema: &[u8], area: &[i64]) -> bool
     if area.len() != n {
         return false;
     }
-    is_blank(area)
+    words::all_zero_from(area, 0)
 }
 
 // A call on an area, by the short way where calls led to the area from a fresh one.

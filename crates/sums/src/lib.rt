@@ -1,7 +1,7 @@
 // Arrays of 32 signed numbers: sums, differences, zeros.
 ghost use mathlib.Core.Path.{_≡_};
 ghost use Prim.Native.Nat.{_+_, _^_, _<_};
-ghost use lib.IntN.{ℤ, natAbs, _+ℤ_, _-ℤ_};
+ghost use lib.IntN.{natAbs, _+ℤ_, _-ℤ_};
 ghost use Rattle.rules.specs.Lists;
 ghost use Rattle.rules.specs.Values.{allZero};
 ghost use Rattle.sums.specs.Small.{Small};
@@ -73,13 +73,5 @@ pub fn less_of(a: [i64; 32], b: [i64; 32]) -> [i64; 32]
 pub fn all_zero(numbers: [i64; 32]) -> bool
     ensures { λ r. ⌜ r ≡ allZero numbers ⌝ }
 {
-    let mut k = 0;
-    while k < 32 {
-        let v = numbers[k];
-        if !words::same_word(0, v) {
-            return false;
-        }
-        k += 1;
-    }
-    true
+    words::all_zero_from(&numbers[0..32], 0)
 }

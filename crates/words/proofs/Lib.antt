@@ -2,3 +2,4 @@
 pub mod Signed
 pub mod Splice
 pub mod Cleared
+pub mod Zeros

@@ -6,7 +6,7 @@ ghost use lib.IntN.{pos};
 ghost use lib.ListN.{length, getD, take, drop, replicate};
 ghost use lib.Seq.{sets};
 ghost use Rattle.rules.specs.Lists.{padded};
-ghost use Rattle.rules.specs.Values.{natOf, natural, inRange, sameValue};
+ghost use Rattle.rules.specs.Values.{natOf, natural, inRange, sameValue, allZero};
 
 // A word as a number; 0 where it is negative.
 pub fn nat_of(w: i64) -> usize
@@ -62,6 +62,21 @@ pub fn is_zero_at(area: &[i64], i: usize) -> bool
     ensures { λ r. ⌜ r ≡ sameValue (pos 0) (getD (now (area .entry)) i (pos 0)) ⌝ }
 {
     same_word(0, area[i])
+}
+
+// Whether the words from `from` on are all 0.
+pub fn all_zero_from(area: &[i64], from: usize) -> bool
+    ensures { λ r. ⌜ r ≡ allZero (drop from (now (area .entry))) ⌝ }
+{
+    let n = area.len();
+    let mut i = from;
+    while i < n {
+        if !is_zero_at(area, i) {
+            return false;
+        }
+        i += 1;
+    }
+    true
 }
 
 // Whether the word at i is a number from 0 to n.

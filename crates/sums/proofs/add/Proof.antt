@@ -1,5 +1,5 @@
 use native.Mathlib.Omega.{arith}
-use lib.IntN.{ℤ, _+ℤ_}
+use lib.IntN.{_+ℤ_}
 use mir.Facts.{toZ-ofZ}
 use Rattle.sums.proofs.Magnitudes.{abs-add, fits-abs}
 use Rattle.sums.proofs.add.Statement.{statement}

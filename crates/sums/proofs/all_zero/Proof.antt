@@ -1,77 +1,38 @@
-use mathlib.Core.Path.{_≡_, refl, sym, _∙_}
-use mathlib.Core.Bool.{true, false}
+use mathlib.Core.Path.{_≡_, _∙_, ap}
 use mathlib.Core.List.{List}
-use Prim.Native.Nat.{ℕ, _-_, _<_, _≤_}
 use native.Mathlib.Omega.{arith}
 use borrow.Author.Needs.{needs}
-use borrow.Author.Tests.{not-true, not-false}
-use lib.IntN.{ℤ, pos}
-use lib.ListN.{length, getD, drop}
-use Rattle.rules.specs.Values.{allZero, sameValue}
-use Rattle.words.proofs.Signed.{back}
-use Rattle.sums.proofs.SumLaws.{zero-miss, zero-more, zero-end}
+use lib.IntN.{ℤ}
+use lib.ListN.{length}
+use lib.Seq.{take-all}
+use Rattle.rules.specs.Values.{allZero}
 use Rattle.sums.proofs.all_zero.Statement.{statement}
 use Rattle.sums.proofs.all_zero.Tie as tie
 
-abbrev Inv-loop : tie.InvT-loop
-Inv-loop numbers k₀ k = (k ≤ 32) × (allZero numbers ≡ allZero (drop k numbers))
+sub-all-zero-from : tie.Need-sub-all-zero-from
+sub-all-zero-from c = search needs
 
-abbrev μ-loop : tie.MeasureT-loop
-μ-loop numbers k₀ k = 32 - k
+part-all-zero-from-start : tie.Need-part-all-zero-from-start
+part-all-zero-from-start c = search needs
 
-loop-holds : tie.Need-loop-holds Inv-loop μ-loop
-loop-holds c = (search needs, refl)
+part-all-zero-from-end : tie.Need-part-all-zero-from-end
+part-all-zero-from-end c = search needs
 
-mul-v : tie.Need-mul-v Inv-loop μ-loop
-mul-v c = search needs
+all-zero-from-requires : tie.Need-all-zero-from-requires
+all-zero-from-requires c κs = search needs
 
-array-copy-out-v : tie.Need-array-copy-out-v Inv-loop μ-loop
-array-copy-out-v c = search needs
-
-same-word-requires : tie.Need-same-word-requires Inv-loop μ-loop
-same-word-requires c κs = search needs
-
-returns : tie.Need-returns Inv-loop μ-loop
+returns : tie.Need-returns
 returns c =
-    let t : List ℤ = c .before .before .before .before .before .args .t1 in
-    let k : ℕ = c .before .before .before .before .loop .k in
-    let lt : k < length t = search needs in
-    let e : sameValue (pos 0) (getD t k (pos 0)) ≡ false = rw (back (getD t k (pos 0)) (c .before .before .v .given)) at (sym (c .before .same-word .ensures) ∙ not-true _ (c .if1 .taken)) in
-    sym (c .before .before .before .before .loop .inv .1 ∙ zero-miss t k lt e)
-
-add-k : tie.Need-add-k Inv-loop μ-loop
-add-k c = search needs
-
-loop-less : tie.Need-loop-less Inv-loop μ-loop
-loop-less c = search needs
-
-loop-again : tie.Need-loop-again Inv-loop μ-loop
-loop-again c =
-    let t : List ℤ = c .before .before .before .before .before .args .t1 in
-    let k : ℕ = c .before .before .before .before .loop .k in
-    let lt : k < length t = search needs in
-    let e : sameValue (pos 0) (getD t k (pos 0)) ≡ true = rw (back (getD t k (pos 0)) (c .before .before .v .given)) at (sym (c .before .same-word .ensures) ∙ not-false _ (c .if1 .left)) in
-    (search needs, c .before .before .before .before .loop .inv .1 ∙ zero-more t k lt e)
-
-returns-2 : tie.Need-returns-2 Inv-loop μ-loop
-returns-2 c =
-    let t : List ℤ = c .before .before .args .t1 in
+    let t : List ℤ = c .before .before .before .args .t1 in
     let n : length t ≡ 32 = search needs in
-    let e : c .before .loop .k ≡ 32 = omega arith in
-    sym (c .before .loop .inv .1 ∙ zero-end t (c .before .loop .k) (e ∙ sym n))
+    c .all-zero-from .ensures ∙ ap allZero (take-all 32 t (omega (arith, n)))
 
 pub all-zero-spec : {M : Type 1} → statement M
 all-zero-spec =
     tie.close
     (tie.spec
-    Inv-loop
-    μ-loop
-    loop-holds
-    mul-v
-    array-copy-out-v
-    same-word-requires
-    returns
-    add-k
-    loop-less
-    loop-again
-    returns-2)
+    sub-all-zero-from
+    part-all-zero-from-start
+    part-all-zero-from-end
+    all-zero-from-requires
+    returns)

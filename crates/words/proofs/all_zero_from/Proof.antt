@@ -4,15 +4,15 @@ use borrow.Author.Needs.{needs}
 use borrow.Author.Tests.{not-true, not-false}
 use lib.ListN.{drop}
 use Rattle.rules.specs.Values.{allZero}
-use Rattle.call_form.proofs.WordLaws.{zero-none, zero-stop, zero-go}
-use Rattle.call_form.proofs.all_zero_from.Statement.{statement}
-use Rattle.call_form.proofs.all_zero_from.Tie as tie
+use Rattle.words.proofs.Zeros.{zero-none, zero-stop, zero-go}
+use Rattle.words.proofs.all_zero_from.Statement.{statement}
+use Rattle.words.proofs.all_zero_from.Tie as tie
 
 abbrev Inv-loop : tie.InvT-loop
-Inv-loop call from n i₀ i = allZero (drop from call) ≡ allZero (drop i call)
+Inv-loop area from n i₀ i = allZero (drop from area) ≡ allZero (drop i area)
 
 abbrev μ-loop : tie.MeasureT-loop
-μ-loop call from n i₀ i = n - i
+μ-loop area from n i₀ i = n - i
 
 loop-holds : tie.Need-loop-holds Inv-loop μ-loop
 loop-holds c = refl
