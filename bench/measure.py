@@ -33,7 +33,9 @@ def loads(count):
     yield "* 32 equal keys, 900 rows", autocommit(Yard(trims_text(900, 900, 64, keys=32), 7), count)
     yield "* constant first column", autocommit(Yard(TWO_COLUMNS, 8, yard_column=True), count)
     yield "* J = 750, long transactions", transactions(Yard(trims_text(60, 75, 750), 9), count, 700)
-    yield "* J = 750, empty transactions", empty_transactions(Yard(trims_text(60, 75, 750), 10), count)
+    # so short that at `count` calls the program's start would be most of its time
+    empty = empty_transactions(Yard(trims_text(60, 75, 750), 10), 10 * count)
+    yield "* J = 750, empty transactions", empty
     yield "* 500 rows follow a parent", herd(count)
 
 
