@@ -46,7 +46,15 @@ command -v rt >/dev/null || stop "rt is not on the PATH: the Rattle kit is neede
 install_packages || stop "cargo, rustc, gcc, python3 and libsqlite3-dev are needed, and apt-get could not install them"
 log=$(mktemp) || stop "no temporary file can be made"
 beside=$(mktemp) || stop "no temporary file can be made"
-trap 'rm -f "$log" "$beside"' EXIT
+scratch=''
+trap 'rm -rf "$log" "$beside" ${scratch:+"$scratch"}' EXIT
+
+# The prover writes a quarter of a gigabyte of scratch files for each check: in memory, where there is room.
+if [ -z "${TMPDIR:-}" ] && [ -w /dev/shm ] && [ "$(df -Pk /dev/shm | awk 'END { print $4 }')" -gt 8000000 ]; then
+    scratch=$(mktemp -d /dev/shm/hoofbook.XXXXXX) || stop "no folder for scratch files can be made"
+    chmod 1777 "$scratch"
+    export TMPDIR=$scratch
+fi
 
 # rt starts a batch of jobs and waits for its slowest: twice as many jobs as processors keep them busy.
 export RT_JOBS=${RT_JOBS:-$((2 * $(nproc)))}
