@@ -1,4 +1,5 @@
 pub mod Tests
+pub mod CountLaws
 pub mod Shapes
 pub mod Books
 pub mod Counts

@@ -10,6 +10,7 @@ use lib.Dec.{leb, eqb}
 use lib.ListN.{length, getD}
 use Rattle.schema.specs.Ranges.{all}
 use Rattle.bridge.proofs.Tests.{all-head, all-tail}
+use Rattle.bridge.proofs.CountLaws.{any-cons}
 use Rattle.rules.specs.Lists.{any, upFrom}
 use Rattle.schema.specs.Bytes.{bit}
 use Rattle.rules.specs.Rows.{Row, live}
@@ -17,7 +18,6 @@ use Rattle.rules.specs.Keys.{sameKey, maskColumns, maskColumnsFrom}
 use Rattle.rules.specs.Change.{twice}
 use Rattle.rows.proofs.LoopLaws.{up-length, up-get}
 use Rattle.moves.specs.Movement.{except}
-use Rattle.moves.proofs.ExceptLaws.{any-cons}
 use Rattle.skips.specs.WithKey.{withKey}
 
 -- ---- a mask that is not 0 has a column

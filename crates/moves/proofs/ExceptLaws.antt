@@ -7,6 +7,7 @@ use Prim.Native.Nat.{ℕ, zero, suc, _+_, _<_}
 use native.Mathlib.Omega.{arith}
 use lib.ListN.{length, getD, set}
 use Rattle.rules.specs.Lists.{any, count, one}
+use Rattle.bridge.proofs.CountLaws.{any-cons, count-cons}
 use Rattle.moves.specs.Movement.{except}
 
 or-swap : (a b c : Bool) → a || (b || c) ≡ b || (a || c)
@@ -15,22 +16,6 @@ or-swap true false c = refl
 or-swap false b c = refl
 
 module _ {A : Type 0} where
-  pub count-cons : (p : A → Bool) (x : A) (xs : List A) → count p (x ∷ xs) ≡ one (p x) + count p xs
-  unfolding count one
-  count-cons p x xs = go (p x)
-    where
-      go : (b : Bool) → elim b [ true ↦ suc (count p xs) | false ↦ count p xs ] ≡ one b + count p xs
-      go true = omega arith
-      go false = omega arith
-
-  pub any-cons : (p : A → Bool) (x : A) (xs : List A) → any p (x ∷ xs) ≡ p x || any p xs
-  unfolding any
-  any-cons p x xs = go (p x)
-    where
-      go : (b : Bool) → elim b [ true ↦ true | false ↦ any p xs ] ≡ b || any p xs
-      go true = refl
-      go false = refl
-
   pub except-set : (r : ℕ) (xs : List A) (y : A) → except r (set xs r y) ≡ except r xs
   unfolding except
   except-set r [] y = refl
@@ -52,8 +37,3 @@ module _ {A : Type 0} where
   any-except p (suc r) (x ∷ xs) d h =
       any-cons p x xs ∙ ap (λ b. p x || b) (any-except p r xs d (omega arith)) ∙ or-swap (p x) (p (getD xs r d)) (any p (except r xs))
       ∙ ap (λ b. p (getD xs r d) || b) (sym (any-cons p x (except r xs)))
-
-  pub count-none : (p : A → Bool) → ((c : A) → p c ≡ false) → (xs : List A) → count p xs ≡ 0
-  unfolding count one
-  count-none p e [] = refl
-  count-none p e (x ∷ xs) = count-cons p x xs ∙ rw (e x, count-none p e xs)

@@ -15,8 +15,9 @@ use Rattle.rules.specs.Lists.{any, count, one}
 use Rattle.rules.specs.Rows.{Row, Tables, rowAt, putRow}
 use Rattle.rules.specs.Keys.{due, serves, orphan, orphans}
 use Rattle.bridge.proofs.Tests.{holds, passes}
+use Rattle.bridge.proofs.CountLaws.{any-cons}
 use Rattle.moves.specs.Movement.{pick, except, exceptIf, stranded, ownOrphan, strandedRows, movement}
-use Rattle.moves.proofs.ExceptLaws.{any-cons, any-except, count-except, except-set}
+use Rattle.moves.proofs.ExceptLaws.{any-except, count-except, except-set}
 use Rattle.moves.proofs.Stranded.{stranded-count, stranded-same}
 
 module _ (k : ForeignKey) where

@@ -9,8 +9,8 @@ use Rattle.schema.specs.Records.{ForeignKey}
 use Rattle.rules.specs.Lists.{any, count, one}
 use Rattle.rules.specs.Rows.{Row}
 use Rattle.rules.specs.Keys.{due, serves, orphan}
+use Rattle.bridge.proofs.CountLaws.{any-cons, count-cons, count-none}
 use Rattle.moves.specs.Movement.{stranded}
-use Rattle.moves.proofs.ExceptLaws.{count-cons, any-cons, count-none}
 
 -- d due, a and b served by the old and by the new words, o by another
 stranded-one : (d a b o : Bool)

@@ -13,10 +13,10 @@ use Rattle.rules.specs.Lists.{any, count}
 use Rattle.rules.specs.Values.{sameValue}
 use Rattle.rules.specs.Rows.{Row, Tables, live, valueAt, nullAt}
 use Rattle.rules.specs.Keys.{sameCell, sameKey, fullKey, mapsTo, due, serves, takes, sameParentKey, fires}
+use Rattle.bridge.proofs.CountLaws.{count-none}
 use Rattle.bridge.proofs.Bits.{same-eq}
 use Rattle.bridge.proofs.KeyLaws.{key-sym}
 use Rattle.moves.specs.Movement.{pick, except, exceptIf, stranded, strandedRows}
-use Rattle.moves.proofs.ExceptLaws.{count-none}
 
 -- ---- keys that equal one key equal each other
 

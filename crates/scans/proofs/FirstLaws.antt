@@ -12,7 +12,7 @@ use lib.ListN.{length, getD, drop}
 use Rattle.rules.specs.Lists.{any}
 use Rattle.rules.specs.Rows.{Row, live}
 use Rattle.rules.specs.Keys.{sameKey}
-use Rattle.moves.proofs.ExceptLaws.{any-cons}
+use Rattle.bridge.proofs.CountLaws.{any-cons}
 use Rattle.bridge.specs.Ready.{rowIn}
 use Rattle.rows.specs.declared.TableRows.{TableRows}
 use Rattle.rows.specs.Standing.{rowsIn}

@@ -14,7 +14,7 @@ use Rattle.rules.specs.Lists.{any, count}
 use Rattle.rules.specs.Rows.{Row, live}
 use Rattle.rules.specs.Keys.{sameKey}
 use Rattle.moves.specs.Movement.{except}
-use Rattle.moves.proofs.ExceptLaws.{any-cons, count-cons}
+use Rattle.bridge.proofs.CountLaws.{any-append, count-append}
 use Rattle.bridge.specs.Ready.{rowIn}
 use Rattle.rows.specs.declared.TableRows.{TableRows}
 use Rattle.rows.specs.Standing.{Standing, rowsIn}
@@ -27,21 +27,6 @@ unfolding withKey
 with-key cs ds image row = refl
 
 -- ---- a list but for one place
-
-module _ {A : Type 0} (p : A → Bool) where
-  any-append : (xs ys : List A) → any p (xs ++ ys) ≡ any p xs || any p ys
-  unfolding any
-  any-append [] ys = refl
-  any-append (x ∷ xs) ys = any-cons p x (xs ++ ys) ∙ ap (λ b. p x || b) (any-append xs ys) ∙ or-assoc (p x) (any p xs) (any p ys) ∙ ap (λ b. b || any p ys) (sym (any-cons p x xs))
-    where
-      or-assoc : (a b c : Bool) → a || (b || c) ≡ (a || b) || c
-      or-assoc true b c = refl
-      or-assoc false b c = refl
-
-  count-append : (xs ys : List A) → count p (xs ++ ys) ≡ count p xs + count p ys
-  unfolding count
-  count-append [] ys = omega arith
-  count-append (x ∷ xs) ys = omega (arith, count-cons p x (xs ++ ys), count-append xs ys, count-cons p x xs)
 
 except-parts : {A : Type 0} (r : ℕ) (xs : List A) → except r xs ≡ take r xs ++ drop (suc r) xs
 unfolding except
