@@ -8,3 +8,4 @@ pub mod Undone
 pub mod Changed
 pub mod Demand3
 pub mod Reached
+pub mod AllOrphans

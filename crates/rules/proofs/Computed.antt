@@ -1,7 +1,7 @@
 -- What calls on a fresh area come to, computed by the rules.
 -- Assumes nothing.
 use mathlib.Core.Bool.{Bool}
-use mathlib.Core.List.{List, [], _∷_, map}
+use mathlib.Core.List.{List, [], _∷_}
 use Prim.Native.Nat.{ℕ}
 use lib.Count.{ones, onesIn}
 use lib.IntN.{ℤ}
@@ -17,7 +17,7 @@ use Rattle.rules.specs.Change.{then, given, notNullBroken, twice, unique
 use Rattle.rules.specs.Engine.{underSchema, makeFresh, callOn}
 use Rattle.rules.specs.Keys.{sameCell, sameKey, fullKey, maskColumnsFrom, maskColumns, mapsTo, due, serves, orphan, orphans, counts, takes, sameParentKey, fires}
 use Rattle.rules.specs.Lists.{any, count, flat, chunks, one, upFrom, sum, less, plus}
-use Rattle.rules.specs.OrphanList.{isOrphan, orphanTotal, schemaVerdict, listVerdict, listed, listAnswer}
+use Rattle.rules.specs.OrphanList.{orphanTotal, recordIf, orphanRows, orphansFrom, orphanList, schemaVerdict, listVerdict, listed, listAnswer, lentAfter, listOrphans}
 use Rattle.rules.specs.Refusals.{number, shown, accepted, failing}
 use Rattle.rules.specs.Rows.{rowAt, putRow, overwrite, image, deletedImage, liveState, live, nullAt, valueAt, maskOf, held, liveImage, normal}
 use Rattle.rules.specs.State.{inTransaction, openerFits, keptInRange, savedInRange, usesRise, placed, undamaged, levelOpen}
@@ -27,6 +27,7 @@ use Rattle.rules.specs.Strike.{place, mark, marks, strike, callsOf}
 use Rattle.rules.specs.Values.{sameValue, sameValues, allZero, natOf, natural, inRange}
 use Rattle.rules.specs.Step.{Logged}
 use Rattle.rules.specs.declared.Listed.{Listed}
+use Rattle.rules.specs.declared.Orphan.{Orphan}
 use Rattle.rules.specs.Engine.{runOn}
 
 -- code, rows changed, net, of each call
@@ -58,12 +59,7 @@ unfoldable pub callsLeft : List ℕ → List (List ℤ) → List (List ℤ)
 unfolding ran strike marks mark place callsOf parse parsed formedIf natural natOf allZero all sameValue
 callsLeft bs cs = callsOf (strike (ran bs cs .0) .line)
 
--- what the orphan list answers on the last area, for a list of `room` records
-unfoldable pub listedAfter : List ℕ → List (List ℤ) → ℕ → Listed
-unfolding ran listAnswer listed listVerdict schemaVerdict orphanTotal bit startsWith headerRest headerRules maskRule sizeRules tableRest tableRules columnRule newColumn columnsRule codeRules keyRest keyRules wellFormed inMask maskIs uniqueIs parentRules checkSchema tableFrom actionFrom keyFrom schemaOf allFrom anyFrom andAll every listFrom all tableSize rowsSize tableOffset areaSize levelOf entryOf tablesOf levelPart rowPart recordPart view naturalHead legible inTable sameCell sameKey fullKey mapsTo due serves orphan orphans any count flat chunks one number failing rowAt liveState live nullAt valueAt inTransaction openerFits keptInRange savedInRange usesRise placed undamaged sameValue natOf natural inRange ones onesIn
-listedAfter bs cs room = listAnswer bs (ran bs cs .1) room
-
--- which of the first n rows are orphans of foreign key k on the last area
-unfoldable pub orphansAfter : List ℕ → List (List ℤ) → ℕ → ℕ → List Bool
-unfolding ran isOrphan tableFrom actionFrom keyFrom schemaOf listFrom tableSize rowsSize tablesOf levelPart rowPart recordPart view levelOf entryOf sameCell sameKey fullKey mapsTo due serves orphan any flat chunks rowAt liveState live nullAt valueAt sameValue natOf bit upFrom
-orphansAfter bs cs k n = map (isOrphan (schemaOf bs) (view (schemaOf bs) (ran bs cs .1) .work .tabs) k) (upFrom 0 n)
+-- the orphan list on the last area, for a lent list
+unfoldable pub listedAfter : List ℕ → List (List ℤ) → List Orphan → Listed × List Orphan
+unfolding ran listOrphans lentAfter orphanList orphansFrom orphanRows recordIf listAnswer listed listVerdict schemaVerdict orphanTotal bit startsWith headerRest headerRules maskRule sizeRules tableRest tableRules columnRule newColumn columnsRule codeRules keyRest keyRules wellFormed inMask maskIs uniqueIs parentRules checkSchema tableFrom actionFrom keyFrom schemaOf allFrom anyFrom andAll every listFrom all tableSize rowsSize tableOffset areaSize levelOf entryOf tablesOf levelPart rowPart recordPart view naturalHead legible inTable sameCell sameKey fullKey mapsTo due serves orphan orphans any count flat chunks one number failing rowAt liveState live nullAt valueAt inTransaction openerFits keptInRange savedInRange usesRise placed undamaged sameValue natOf natural inRange ones onesIn
+listedAfter bs cs before = listOrphans bs (ran bs cs .1) before

@@ -1,13 +1,14 @@
 -- More worked examples: what students write, undo, striking out, the orphan list.
 -- Assumes nothing.
 use mathlib.Core.Path.{_≡_, refl}
-use mathlib.Core.Bool.{true, false}
+use mathlib.Core.Bool.{true}
 use mathlib.Core.List.{List, [], _∷_, _++_, map}
 use Prim.Native.Nat.{ℕ}
 use lib.IntN.{ℤ, pos, negsuc}
 use lib.ListN.{take, replicate}
-use Rattle.rules.proofs.Inputs.{schemaS, selfReferring, twoKeys, pairKey, insert, update, delete, begin, savepoint, release, rollbackTo, rollback, commit, selves, family}
-use Rattle.rules.proofs.Computed.{answers, sameArea, callsLeft, listedAfter, orphansAfter}
+use Rattle.rules.specs.declared.Orphan.{Orphan}
+use Rattle.rules.proofs.Inputs.{schemaS, selfReferring, twoKeys, crossedKeys, pairKey, insert, update, delete, begin, savepoint, release, rollbackTo, rollback, commit, selves, family}
+use Rattle.rules.proofs.Computed.{answers, sameArea, callsLeft, listedAfter}
 use Rattle.rules.proofs.PaperCases.{Case}
 
 abbrev one : ℕ × ℕ × ℤ
@@ -88,16 +89,26 @@ pub undone-same : map (λ (u : Undone). sameArea (u .schema) (u .sent) (u .left)
 unfolding sameArea undoneExamples
 undone-same = refl
 
--- ---- the orphan list: two child rows, one of which finds its parent
+-- ---- the orphan list: of three child rows, keys 0 and 1 have two orphans each
 unfoldable pub orphaned : List (List ℤ)
 unfolding insert begin
-orphaned = begin ∷ insert 1 0 0 (pos 11 ∷ pos 5 ∷ []) ∷ insert 1 2 0 (pos 12 ∷ pos 6 ∷ []) ∷ insert 0 0 0 (pos 5 ∷ []) ∷ []
+orphaned = begin ∷ insert 1 2 0 (pos 6 ∷ pos 6 ∷ []) ∷ insert 1 0 0 (pos 5 ∷ pos 6 ∷ []) ∷ insert 1 1 0 (pos 6 ∷ pos 5 ∷ []) ∷ insert 0 0 0 (pos 5 ∷ []) ∷ []
 
--- there is no room for it, just room, more than that
-pub listed-holds : map (listedAfter schemaS orphaned) (0 ∷ 1 ∷ 2 ∷ []) ≡ record { code = pos 22; count = 0 } ∷ record { code = pos 0; count = 1 } ∷ record { code = pos 0; count = 1 } ∷ []
-unfolding listedAfter schemaS orphaned
+abbrev at : ℕ → ℕ → Orphan
+at k r = record { key = k; row = r }
+
+-- by foreign key number, then by rising child row; a record past them keeps what it held
+pub listed-holds : listedAfter crossedKeys orphaned (at 7 7 ∷ at 7 7 ∷ at 7 7 ∷ at 7 7 ∷ at 8 9 ∷ [])
+    ≡ (record { code = pos 0; count = 4 }, at 0 0 ∷ at 0 2 ∷ at 1 1 ∷ at 1 2 ∷ at 8 9 ∷ [])
+unfolding listedAfter crossedKeys orphaned
 listed-holds = refl
 
-pub orphans-hold : map (λ (k : ℕ). orphansAfter schemaS orphaned k 5) (0 ∷ 1 ∷ []) ≡ (false ∷ false ∷ true ∷ false ∷ false ∷ []) ∷ (false ∷ false ∷ false ∷ false ∷ false ∷ []) ∷ []
-unfolding orphansAfter schemaS orphaned
-orphans-hold = refl
+-- just room
+pub listed-full : listedAfter crossedKeys orphaned (at 7 7 ∷ at 7 7 ∷ at 7 7 ∷ at 7 7 ∷ []) ≡ (record { code = pos 0; count = 4 }, at 0 0 ∷ at 0 2 ∷ at 1 1 ∷ at 1 2 ∷ [])
+unfolding listedAfter crossedKeys orphaned
+listed-full = refl
+
+-- no room: nothing is written
+pub listed-refused : listedAfter crossedKeys orphaned (at 7 7 ∷ at 7 7 ∷ at 7 7 ∷ []) ≡ (record { code = pos 22; count = 0 }, at 7 7 ∷ at 7 7 ∷ at 7 7 ∷ [])
+unfolding listedAfter crossedKeys orphaned
+listed-refused = refl

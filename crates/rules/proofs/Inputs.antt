@@ -49,6 +49,11 @@ unfoldable pub twoKeys : ℕ → ℕ → List ℕ
 unfolding schemaBytes tableBytes keyBytes
 twoKeys first second = schemaBytes 2 2 8 (tableBytes 2 1 1 1 ++ tableBytes 2 1 0 0 ++ keyBytes 1 0 0 0 0 first first ++ keyBytes 1 0 0 0 0 second second)
 
+-- two deferred keys from table 1 to table 0, the first by column 1 and the second by column 0
+unfoldable pub crossedKeys : List ℕ
+unfolding schemaBytes tableBytes keyBytes
+crossedKeys = schemaBytes 2 2 8 (tableBytes 2 1 1 1 ++ tableBytes 3 2 0 0 ++ keyBytes 1 1 0 0 1 0 0 ++ keyBytes 1 0 0 0 1 0 0)
+
 -- a key of two columns from table 1 to table 0
 unfoldable pub pairKey : List ℕ
 unfolding schemaBytes tableBytes
