@@ -5,7 +5,7 @@ ghost use lib.IntN.{pos};
 ghost use Rattle.schema.specs.Check;
 ghost use Rattle.engine.specs.Calls.{callWords};
 ghost use Rattle.fresh_area.specs.Fresh.{areaWords};
-ghost use Rattle.rules.specs.OrphanList.{ListsOrphans};
+ghost use Rattle.rules.specs.OrphanList.{listOrphans};
 ghost use Rattle.capi.specs.Shown.{freshCode};
 use rules::Listed;
 use rules::Orphan;
@@ -63,20 +63,17 @@ pub extern "C" fn hoofbook_call(schema: &[u8], area: &mut [i64], call: &[i64]) -
     }
 }
 
-// Lists all orphans, or refuses by 1, 2, 3, 10 or 22 with nothing written: the one function that writes records into a lent slice of structs.
+// Lists all orphans, by foreign key and then by row, or refuses by 1, 2, 3, 10 or 22 with nothing written: the one function that writes records into a lent slice of structs.
 #[no_mangle]
 pub extern "C" fn hoofbook_list_orphans(schema: &[u8], area: &[i64], list: &mut [Orphan]) -> Listed
-    ensures { λ x. ⌜ ListsOrphans (now (schema .entry)) (now (area .entry)) (now (list .entry)) (now (list .exit)) x ⌝ }
+    ensures { λ x. ⌜ (x, now (list .exit)) ≡ listOrphans (now (schema .entry)) (now (area .entry)) (now (list .entry)) ⌝ }
 {
-    let plan = orphan_plan::plan_list(schema, area, list.len());
-    let answer = plan.answer;
-    let n = answer.count;
-    let mut next = plan.first;
+    let mut plan = orphan_plan::plan_list(schema, area, list.len());
     let mut i = 0;
-    while i < n {
-        list[i] = next;
-        next = orphan_scan::next_orphan(schema, area, next);
+    while i < plan.answer.count {
+        plan = orphan_plan::next_planned(schema, area, plan);
+        list[i] = plan.at.orphan;
         i += 1;
     }
-    answer
+    plan.answer
 }

@@ -1,10 +1,11 @@
 -- The parent rows that serve a child row, as a scan finds them, and whether a row is an orphan.
 -- Assumes nothing.
-use mathlib.Core.Path.{_≡_, refl, ap, _∙_}
+use mathlib.Core.Path.{_≡_, refl, sym, ap, _∙_}
 use mathlib.Core.Bool.{Bool, true, false, not, _&&_}
 use mathlib.Core.List.{List}
 use Prim.Native.Nat.{ℕ, _≤_}
 use native.Mathlib.Omega.{arith}
+use borrow.Author.Tests.{not-true, not-false}
 use lib.ListN.{length, take}
 use lib.Seq.{length-take-le}
 use Rattle.schema.specs.Records.{ForeignKey}
@@ -23,13 +24,9 @@ some-columns b k n cs ps c =
     let width = read-width b (c .accepted) k (c .key) refl in
     omega (arith, size, ap length (c .child-is), width .0, width .1 .low)
 
-module _ (k : ForeignKey) {cs : List ℕ} (e : cs ≡ k .childColumns) where
-  pub full-due : (x : Row) → fullKey cs x ≡ due k x
-  unfolding due
-  full-due x = rw e
-
+module _ (k : ForeignKey) {cs : List ℕ} (e : cs ≡ k .childColumns) (x : Row) where
   -- the parent rows with its key
-  module _ {ps : List ℕ} (f : ps ≡ k .parentColumns) (x : Row) where
+  module _ {ps : List ℕ} (f : ps ≡ k .parentColumns) where
     with-key-serves : (y : Row) → withKey ps cs x y ≡ serves k x y
     unfolding withKey serves mapsTo
     with-key-serves y = rw (e, f) (ap (λ (b : Bool). live y && b) (key-sym y x (k .parentColumns) (k .childColumns)))
@@ -37,11 +34,16 @@ module _ (k : ForeignKey) {cs : List ℕ} (e : cs ≡ k .childColumns) where
     pub any-serving : {ys zs : List Row} → ys ≡ zs → any (withKey ps cs x) ys ≡ any (serves k x) zs
     any-serving {ys} {zs} g = (λ i. any (λ y. with-key-serves y i) ys) ∙ ap (any (serves k x)) g
 
-module _ (k : ForeignKey) (ys : List Row) (x : Row) where
-  pub orphan-undue : due k x ≡ false → false ≡ orphan k ys x
-  unfolding orphan
-  orphan-undue e = rw e
+  -- a row that needs no parent is no orphan; one that needs one is, if nobody serves it
+  module _ (ys : List Row) {full : Bool} (h : full ≡ fullKey cs x) where
+    due-is : due k x ≡ full
+    unfolding due
+    due-is = sym (h ∙ ap (λ (ds : List ℕ). fullKey ds x) e)
 
-  pub orphan-due : due k x ≡ true → not (any (serves k x) ys) ≡ orphan k ys x
-  unfolding orphan
-  orphan-due e = rw e
+    pub orphan-undue : not full ≡ true → false ≡ orphan k ys x
+    unfolding orphan
+    orphan-undue t = rw (due-is ∙ not-true _ t)
+
+    pub orphan-due : {served : Bool} → served ≡ any (serves k x) ys → not full ≡ false → not served ≡ orphan k ys x
+    unfolding orphan
+    orphan-due g t = rw (due-is ∙ not-false _ t) (ap not g)

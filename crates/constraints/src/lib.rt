@@ -10,7 +10,7 @@ ghost use Rattle.rules.specs.Keys;
 ghost use Rattle.rules.specs.Change;
 ghost use Rattle.bridge.specs.Fit.{workOf};
 ghost use Rattle.bridge.specs.Ready.{Ready, Placed};
-ghost use Rattle.rows.specs.Standing.{Standing, rowsIn};
+ghost use Rattle.rows.specs.Standing.{Standing, RowsOf, rowsIn};
 ghost use Rattle.rows.specs.KeyColumns.{KeyColumns, MaskWithin, maskBroken};
 use rows::TableRows;
 
@@ -51,25 +51,44 @@ pub fn unique_broken(schema: &[u8], area: &[i64], t: usize, r: usize, image: [i6
 
 // ---- foreign keys
 
-// Whether a live parent row of foreign key k has the key of a child row's image.
+// Whether one of foreign key k's parent rows serves a child row's image.
 fn is_served(
     schema: &[u8],
     area: &[i64],
     k: usize,
     image: [i64; 9],
+    parents: TableRows,
     n: usize,
     cs: [usize; 8],
     ps: [usize; 8],
 ) -> bool
-    requires { ⌜ Ready (now schema) (now area) × KeyColumns (now schema) k n cs ps ⌝ }
+    requires { ⌜ Ready (now schema) (now area) × (KeyColumns (now schema) k n cs ps × RowsOf (now schema) (keyOf (schemaOf (now schema)) k .parent) parents) ⌝ }
     ensures { λ x. ⌜ x ≡ Lists.any (Keys.serves (keyOf (schemaOf (now (schema .entry))) k) image) (getD (workOf (schemaOf (now (schema .entry))) (now (area .entry)) .tabs) (keyOf (schemaOf (now (schema .entry))) k .parent) []) ⌝ }
 {
-    let t = fields::parent(schema, k);
-    let parents = rows::rows_of(schema, t);
     scans::any_with_key(area, parents, &image, n, &ps, &cs)
 }
 
-// Whether the image of a child row of foreign key k is that of an orphan.
+// Whether the image of a child row of foreign key k, of which the parent rows and the columns are given, is that of an orphan.
+pub fn is_orphan_among(
+    schema: &[u8],
+    area: &[i64],
+    k: usize,
+    image: [i64; 9],
+    parents: TableRows,
+    n: usize,
+    cs: [usize; 8],
+    ps: [usize; 8],
+) -> bool
+    requires { ⌜ Ready (now schema) (now area) × (KeyColumns (now schema) k n cs ps × RowsOf (now schema) (keyOf (schemaOf (now schema)) k .parent) parents) ⌝ }
+    ensures { λ x. ⌜ x ≡ Keys.orphan (keyOf (schemaOf (now (schema .entry))) k) (getD (workOf (schemaOf (now (schema .entry))) (now (area .entry)) .tabs) (keyOf (schemaOf (now (schema .entry))) k .parent) []) image ⌝ }
+{
+    if !rows::image_full_key(image, n, cs) {
+        return false;
+    }
+    !is_served(schema, area, k, image, parents, n, cs, ps)
+}
+
+// The same for one image: the parent rows are read where they are needed.
 pub fn is_orphan_image(
     schema: &[u8],
     area: &[i64],
@@ -85,5 +104,6 @@ pub fn is_orphan_image(
     if !rows::image_full_key(image, n, cs) {
         return false;
     }
-    !is_served(schema, area, k, image, n, cs, ps)
+    let parents = rows::rows_of(schema, fields::parent(schema, k));
+    !is_served(schema, area, k, image, parents, n, cs, ps)
 }

@@ -1,4 +1,4 @@
-// The checks of the orphan list, how many orphans there are, and the first.
+// The checks of the orphan list, how many orphans there are, and where the search for them begins.
 ghost use mathlib.Core.Path.{_≡_};
 ghost use Prim.Native.Nat.{_<_};
 ghost use Rattle.schema.specs.Fields.{schemaOf};
@@ -7,15 +7,16 @@ ghost use Rattle.rules.specs.OrphanList.{orphanTotal};
 ghost use Rattle.bridge.specs.Fit.{workOf};
 ghost use Rattle.bridge.specs.Ready.{Ready, Sound};
 ghost use Rattle.orphan_plan.specs.Planned.{Planned, refusedBy};
+ghost use Rattle.orphan_scan.specs.Scan.{Unfinished, Next};
+use orphan_scan::Cursor;
 use rules::Listed;
-use rules::Orphan;
 use rules::Refusal;
 use schema::SchemaAnswer;
 
-// What is found before the list is written: the answer, and the first orphan where there is one.
+// The answer, and where the search stands: while the list is written, behind the last orphan found.
 pub struct Plan {
     pub answer: Listed,
-    pub first: Orphan,
+    pub at: Cursor,
 }
 
 // The number of orphans of all foreign keys.
@@ -35,15 +36,16 @@ fn orphan_total(schema: &[u8], area: &[i64]) -> usize
 
 // The plan where the list is refused.
 fn refused(refusal: Refusal) -> Plan
-    ensures { λ x. ⌜ x ≡ refusedBy refusal ⌝ }
+    ensures { λ x. ⌜ x .answer ≡ refusedBy refusal ⌝ }
 {
     let code = answers::refusal_number(refusal);
+    let at = orphan_scan::nowhere();
     Plan {
         answer: Listed {
             code: code,
             count: 0,
         },
-        first: Orphan { key: 0, row: 0 },
+        at: at,
     }
 }
 
@@ -56,13 +58,13 @@ fn plan_rows(schema: &[u8], area: &[i64], room: usize) -> Plan
     if room < total {
         return refused(Refusal::ListTooShort);
     }
-    let first = orphan_scan::first_from(schema, area, 0, 0);
+    let at = orphan_scan::start(schema);
     Plan {
         answer: Listed {
             code: 0,
             count: total,
         },
-        first: first,
+        at: at,
     }
 }
 
@@ -88,5 +90,19 @@ pub fn plan_list(schema: &[u8], area: &[i64], room: usize) -> Plan
         SchemaAnswer::Malformed => refused(Refusal::SchemaMalformed),
         SchemaAnswer::Unmatched => refused(Refusal::SchemaUnmatched),
         SchemaAnswer::Accepted => plan_area(schema, area, room),
+    }
+}
+
+// The plan behind the next orphan, where there is one.
+pub fn next_planned(schema: &[u8], area: &[i64], plan: Plan) -> Plan
+    requires { ⌜ Unfinished (now schema) (now area) (plan .at) ⌝ }
+    ensures { λ x. ⌜ (x .answer ≡ plan .answer) × Next (now (schema .entry)) (now (area .entry)) (plan .at) (x .at) ⌝ }
+{
+    let answer = plan.answer;
+    let at = plan.at;
+    let next = orphan_scan::next_orphan(schema, area, at);
+    Plan {
+        answer: answer,
+        at: next,
     }
 }

@@ -1,122 +1,90 @@
--- The orphans in sequence, step by step.
+-- The orphan list from a row on: row by row, and from one foreign key to the next.
 -- Assumes nothing.
-use mathlib.Core.Path.{_≡_, refl, sym, ap, ap₂, _∙_}
+use mathlib.Core.Path.{_≡_, refl, sym, ap, _∙_}
 use mathlib.Core.Bool.{Bool, true, false}
-use mathlib.Core.List.{List, [], _∷_, _++_, map}
+use mathlib.Core.List.{List, [], _∷_, _++_}
 use Prim.Native.Nat.{ℕ, suc, _+_, _≤_, _<_}
 use native.Mathlib.Numerals.{add-one}
 use native.Mathlib.Omega.{arith}
+use borrow.Author.Tests.{ltb-true, ltb-false}
+use lib.Dec.{ltb}
 use lib.IntN.{ℤ}
-use lib.ListN.{length, getD, drop, drop-of-length-le, length-append, length-map}
+use lib.ListN.{length, getD, drop, drop-of-length-le}
 use lib.Seq.{drop-cons}
-use Rattle.schema.specs.Records.{ForeignKey, noKey}
+use Rattle.schema.specs.Records.{noKey}
 use Rattle.schema.specs.Fields.{schemaOf}
 use Rattle.rules.specs.declared.Orphan.{Orphan}
-use Rattle.rules.specs.Lists.{count}
-use Rattle.rules.specs.Rows.{Tables}
-use Rattle.rules.specs.Keys.{orphan, orphans}
-use Rattle.rules.specs.OrphanList.{orphanTotal}
+use Rattle.rules.specs.Rows.{Row}
+use Rattle.rules.specs.OrphanList.{recordIf, orphanRows, orphansFrom, orphanList}
 use Rattle.bridge.specs.Fit.{workOf}
-use Rattle.orphans.proofs.OrphanLaws.{childRows, isAlone}
-use Rattle.orphan_scan.specs.Scan.{passing, orphansOf, orphansFrom, FirstRow, FirstOf}
+use Rattle.bridge.specs.Ready.{Ready}
+use Rattle.orphans.specs.declared.KeyRows.{KeyRows}
+use Rattle.orphans.specs.KeyRows.{KeyRowsOf}
+use Rattle.orphans.proofs.OrphanLaws.{childRows, childAt, isAlone, child-is, children-many}
+use Rattle.orphan_scan.specs.Scan.{orphansPast, orphansLeft, orphansAt, Starts}
+use Rattle.orphan_scan.specs.declared.Cursor.{Cursor}
 
--- ---- the numbers of the elements that pass
-module _ {A : Type 0} (p : A → Bool) where
-  module _ (x : A) (xs : List A) (j : ℕ) where
-    pub passing-true : p x ≡ true → passing p j (x ∷ xs) ≡ j ∷ passing p (suc j) xs
-    unfolding passing
-    passing-true e = rw (e, passing) refl
+-- ---- the orphans of one foreign key, from row j on
+module _ (p : Row → Bool) (k : ℕ) (xs : List Row) (j : ℕ) where
+  rows-none : length xs ≤ j → orphanRows p k j (drop j xs) ≡ []
+  unfolding orphanRows
+  rows-none h = ap (orphanRows p k j) (drop-of-length-le xs h)
 
-    pub passing-false : p x ≡ false → passing p j (x ∷ xs) ≡ passing p (suc j) xs
-    unfolding passing
-    passing-false e = rw (e, passing) refl
+  module _ (l : j < length xs) where
+    -- row j, then those after it
+    rows-turn : orphanRows p k j (drop j xs) ≡ recordIf (p (getD xs j [])) (record { key = k; row = j }) (orphanRows p k (j + 1) (drop (j + 1) xs))
+    unfolding orphanRows
+    rows-turn = ap (orphanRows p k j) (drop-cons xs j [] l) ∙ ap (λ (i : ℕ). recordIf (p (getD xs j [])) (record { key = k; row = j }) (orphanRows p k i (drop i xs))) (sym (add-one j))
 
-  pub passing-length : (j : ℕ) (xs : List A) → length (passing p j xs) ≡ count p xs
-  unfolding passing count
-  passing-length j [] = refl
-  passing-length j (x ∷ xs) = go (p x) refl (passing-length (suc j) xs)
-    where
-      go : (b : Bool) → p x ≡ b → length (passing p (suc j) xs) ≡ count p xs → length (passing p j (x ∷ xs)) ≡ count p (x ∷ xs)
-      go true e h = ap length (passing-true x xs j e) ∙ ap suc h ∙ sym (rw (e, count) refl)
-      go false e h = ap length (passing-false x xs j e) ∙ h ∙ sym (rw (e, count) refl)
+    rows-hit : p (getD xs j []) ≡ true → orphanRows p k j (drop j xs) ≡ record { key = k; row = j } ∷ orphanRows p k (j + 1) (drop (j + 1) xs)
+    unfolding recordIf
+    rows-hit e = rows-turn ∙ rw e refl
 
-  module _ (xs : List A) (j : ℕ) where
-    pub passing-none : length xs ≤ j → passing p j (drop j xs) ≡ []
-    unfolding passing
-    passing-none h = ap (passing p j) (drop-of-length-le xs h)
+    rows-miss : p (getD xs j []) ≡ false → orphanRows p k j (drop j xs) ≡ orphanRows p k (j + 1) (drop (j + 1) xs)
+    unfolding recordIf
+    rows-miss e = rows-turn ∙ rw e refl
 
-    module _ (d : A) (l : j < length xs) where
-      pub passing-hit : p (getD xs j d) ≡ true → passing p j (drop j xs) ≡ j ∷ passing p (suc j) (drop (suc j) xs)
-      passing-hit e = ap (passing p j) (drop-cons xs j d l) ∙ passing-true _ _ j e
+module _ (b : List ℕ) (a : List ℤ) where
+  past-key : (k : ℕ) → k < length (schemaOf b .keys) → orphansPast b a k ≡ orphansLeft b a k 0
+  unfolding orphansPast orphansLeft orphansFrom
+  past-key k l = ap (orphansFrom (workOf (schemaOf b) a .tabs) k) (drop-cons (schemaOf b .keys) k noKey l)
 
-      pub passing-miss : p (getD xs j d) ≡ false → passing p j (drop j xs) ≡ passing p (j + 1) (drop (j + 1) xs)
-      passing-miss e = ap (passing p j) (drop-cons xs j d l) ∙ passing-false _ _ j e ∙ ap (λ (i : ℕ). passing p i (drop i xs)) (sym (add-one j))
+  past-none : (k : ℕ) → length (schemaOf b .keys) ≤ k → orphansPast b a k ≡ []
+  unfolding orphansPast orphansFrom
+  past-none k l = ap (orphansFrom (workOf (schemaOf b) a .tabs) k) (drop-of-length-le (schemaOf b .keys) l)
 
--- ---- the orphans of all foreign keys
-abbrev pub orphanAt : ℕ → ℕ → Orphan
-orphanAt k j = record { key = k; row = j }
+  -- all of them
+  pub all-left : {x : Cursor} → Starts b x → 0 < length (schemaOf b .keys) → orphanList (schemaOf b) (workOf (schemaOf b) a .tabs) ≡ orphansAt b a x
+  unfolding orphanList orphansPast
+  all-left {x} h l = past-key 0 l ∙ rw (h .first-key, h .first-row) refl
 
--- how many they are
-pub total-length : (tabs : Tables) (k : ℕ) (fs : List ForeignKey) → length (orphansOf tabs k 0 fs) ≡ orphanTotal fs tabs
-unfolding orphansOf orphanTotal orphans
-total-length tabs k [] = refl
-total-length tabs k (f ∷ fs) =
-    let js : List ℕ = passing (orphan f (getD tabs (f .parent) [])) 0 (getD tabs (f .child) []) in
-    length-append (map (orphanAt k) js) (orphansOf tabs (suc k) 0 fs)
-    ∙ ap₂ (λ (m n : ℕ). m + n) (length-map js (orphanAt k) ∙ passing-length _ 0 (getD tabs (f .child) [])) (total-length tabs (suc k) fs)
+  module _ (h : Ready b a) {k : ℕ} {key : KeyRows} (e : KeyRowsOf b k key) (j : ℕ) where
+    -- row j is an orphan, or it is none
+    module _ (l : j < key .children .count) {z : Bool} (i : z ≡ isAlone b a k (childAt b a k j)) where
+      in-rows : j < length (childRows b a k)
+      in-rows = omega (arith, l, children-many b a k h key e)
 
--- how many are left from foreign key k on
-module _ (tabs : Tables) (fs : List ForeignKey) (k : ℕ) where
-  pub total-none : length fs ≤ k → orphanTotal (drop k fs) tabs ≡ 0
-  unfolding orphanTotal
-  total-none h = ap (λ (l : List ForeignKey). orphanTotal l tabs) (drop-of-length-le fs h)
+      pub left-hit : z ≡ true → orphansLeft b a k j ≡ record { key = k; row = j } ∷ orphansLeft b a k (j + 1)
+      unfolding orphansLeft
+      left-hit t = ap (λ (os : List Orphan). os ++ orphansPast b a (suc k)) (rows-hit (isAlone b a k) k (childRows b a k) j in-rows (child-is b a k j i ∙ t))
 
-  pub total-more : k < length fs → orphanTotal (drop k fs) tabs ≡ orphans tabs (getD fs k noKey) + orphanTotal (drop (k + 1) fs) tabs
-  unfolding orphanTotal
-  total-more l = ap (λ (l : List ForeignKey). orphanTotal l tabs) (drop-cons fs k noKey l) ∙ ap (λ (i : ℕ). orphans tabs (getD fs k noKey) + orphanTotal (drop i fs) tabs) (sym (add-one k))
+      pub left-miss : z ≡ false → orphansLeft b a k j ≡ orphansLeft b a k (j + 1)
+      unfolding orphansLeft
+      left-miss t = ap (λ (os : List Orphan). os ++ orphansPast b a (suc k)) (rows-miss (isAlone b a k) k (childRows b a k) j in-rows (child-is b a k j i ∙ t))
 
-module _ (bs : List ℕ) (ws : List ℤ) where
-  abbrev pub tablesIn : Tables
-  tablesIn = workOf (schemaOf bs) ws .tabs
+    -- no child row is left
+    module _ (l : key .children .count ≤ j) where
+      left-none : orphansLeft b a k j ≡ orphansPast b a (suc k)
+      unfolding orphansLeft
+      left-none = ap (λ (os : List Orphan). os ++ orphansPast b a (suc k)) (rows-none (isAlone b a k) k (childRows b a k) j (omega (arith, l, children-many b a k h key e)))
 
-  pub from-past : (k r : ℕ) → length (schemaOf bs .keys) ≤ k → orphansFrom bs ws k r ≡ []
-  unfolding orphansFrom orphansOf
-  from-past k r h = ap (orphansOf tablesIn k r) (drop-of-length-le (schemaOf bs .keys) h)
+      -- where an orphan is left, there is another foreign key
+      pub key-more : {os : List Orphan} → os ≡ orphansLeft b a k j → 0 < length os → k + 1 < length (schemaOf b .keys)
+      key-more {os} f some = go (ltb (suc k) (length (schemaOf b .keys))) refl
+        where
+          go : (t : Bool) → ltb (suc k) (length (schemaOf b .keys)) ≡ t → k + 1 < length (schemaOf b .keys)
+          go true t = omega (arith, ltb-true (suc k) (length (schemaOf b .keys)) t)
+          go false t = absurd (omega (arith, some, ap length (f ∙ left-none ∙ past-none (suc k) (ltb-false (suc k) (length (schemaOf b .keys)) t))))
 
-  pub from-length : length (orphansFrom bs ws 0 0) ≡ orphanTotal (schemaOf bs .keys) tablesIn
-  unfolding orphansFrom
-  from-length = total-length tablesIn 0 (schemaOf bs .keys)
-
-  module _ (k : ℕ) (l : k < length (schemaOf bs .keys)) where
-    from-key : (r : ℕ) → orphansFrom bs ws k r ≡ map (orphanAt k) (passing (isAlone bs ws k) r (drop r (childRows bs ws k))) ++ orphansFrom bs ws (suc k) 0
-    unfolding orphansFrom orphansOf
-    from-key r = ap (orphansOf tablesIn k r) (drop-cons (schemaOf bs .keys) k noKey l)
-
-    module _ {r x : ℕ} (h : FirstRow (isAlone bs ws k) (childRows bs ws k) r x) where
-      skipped : orphansFrom bs ws k r ≡ orphansFrom bs ws k x
-      skipped = from-key r ∙ ap (λ (js : List ℕ). map (orphanAt k) js ++ orphansFrom bs ws (suc k) 0) (h .rest) ∙ sym (from-key x)
-
-      -- an orphan is found
-      pub from-found : x < length (childRows bs ws k) → orphansFrom bs ws k r ≡ orphanAt k x ∷ orphansFrom bs ws k (suc x)
-      from-found m =
-          skipped
-          ∙ from-key x
-          ∙ ap (λ (js : List ℕ). map (orphanAt k) js ++ orphansFrom bs ws (suc k) 0) (passing-hit (isAlone bs ws k) (childRows bs ws k) x [] m (h .found m))
-          ∙ ap (λ (os : List Orphan). orphanAt k x ∷ os) (sym (from-key (suc x)))
-
-      -- the next foreign key
-      pub from-next : length (childRows bs ws k) ≤ x → orphansFrom bs ws k r ≡ orphansFrom bs ws (k + 1) 0
-      from-next m =
-          skipped
-          ∙ from-key x
-          ∙ ap (λ (js : List ℕ). map (orphanAt k) js ++ orphansFrom bs ws (suc k) 0) (passing-none (isAlone bs ws k) (childRows bs ws k) x m)
-          ∙ ap (λ (i : ℕ). orphansFrom bs ws i 0) (sym (add-one k))
-
-    -- what the search through the foreign keys gives
-    pub first-found : {l : List Orphan} (r x : ℕ) → l ≡ orphansFrom bs ws k r → FirstRow (isAlone bs ws k) (childRows bs ws k) r x → x < length (childRows bs ws k) → x < 1024 → FirstOf bs ws l (orphanAt k x)
-    first-found r x e h m n = record { heads = λ z. e ∙ from-found h m; small = n }
-
-  pub first-none : {l : List Orphan} (k r : ℕ) → l ≡ orphansFrom bs ws k r → length (schemaOf bs .keys) ≤ k → FirstOf bs ws l (orphanAt k 0)
-  first-none {l} k r e h =
-      let n : length l ≡ 0 = ap length (e ∙ from-past k r h) in
-      record { heads = λ z. absurd (omega (arith, n, z)); small = omega arith }
+      pub left-next : k + 1 < length (schemaOf b .keys) → orphansLeft b a k j ≡ orphansLeft b a (k + 1) 0
+      left-next m = left-none ∙ ap (orphansPast b a) (sym (add-one k)) ∙ past-key (k + 1) m

@@ -1,43 +1,54 @@
--- The orphans in the sequence in which they are listed: foreign keys by number, child rows by rising number.
+-- The orphan list, from a row of a foreign key on, and the search that goes down it.
 -- Assumes nothing.
 use mathlib.Core.Path.{_≡_}
-use mathlib.Core.Bool.{Bool, true, false}
-use mathlib.Core.List.{List, [], _∷_, _++_, map}
-use Prim.Native.Nat.{ℕ, suc, _<_}
+use mathlib.Core.List.{List, [], _∷_, _++_}
+use Prim.Native.Nat.{ℕ, suc, _+_, _<_}
 use lib.IntN.{ℤ}
 use lib.ListN.{length, getD, drop}
-use Rattle.schema.specs.Records.{ForeignKey}
+use Rattle.schema.specs.Records.{keyOf}
 use Rattle.schema.specs.Fields.{schemaOf}
 use Rattle.rules.specs.declared.Orphan.{Orphan}
-use Rattle.rules.specs.Rows.{Row, Tables}
 use Rattle.rules.specs.Keys.{orphan}
+use Rattle.rules.specs.OrphanList.{orphanRows, orphansFrom}
 use Rattle.bridge.specs.Fit.{workOf}
+use Rattle.bridge.specs.Ready.{Ready}
+use Rattle.orphans.specs.declared.KeyRows.{KeyRows}
+use Rattle.orphans.specs.KeyRows.{KeyRowsOf}
+use Rattle.orphan_scan.specs.declared.Cursor.{Cursor}
 
--- the numbers of the elements that pass, where the first element has number j
-unfoldable pub passing : {A : Type 0} → (A → Bool) → ℕ → List A → List ℕ
-passing p j [] = []
-passing p j (x ∷ xs) = elim (p x) [ true ↦ j ∷ passing p (suc j) xs | false ↦ passing p (suc j) xs ]
+module _ (b : List ℕ) (a : List ℤ) where
+  -- the orphans from foreign key k on
+  unfoldable pub orphansPast : ℕ → List Orphan
+  orphansPast k = orphansFrom (workOf (schemaOf b) a .tabs) k (drop k (schemaOf b .keys))
 
--- the orphans of some foreign keys, the first of which has number k, from row r of its child table on
-unfoldable pub orphansOf : Tables → ℕ → ℕ → List ForeignKey → List Orphan
-orphansOf tabs k r [] = []
-orphansOf tabs k r (f ∷ fs) =
-    map (λ j. record { key = k; row = j }) (passing (orphan f (getD tabs (f .parent) [])) r (drop r (getD tabs (f .child) []))) ++ orphansOf tabs (suc k) 0 fs
+  -- the orphans from row r of foreign key k on
+  unfoldable pub orphansLeft : ℕ → ℕ → List Orphan
+  orphansLeft k r =
+      orphanRows (orphan (keyOf (schemaOf b) k) (getD (workOf (schemaOf b) a .tabs) (keyOf (schemaOf b) k .parent) [])) k r (drop r (getD (workOf (schemaOf b) a .tabs) (keyOf (schemaOf b) k .child) []))
+      ++ orphansPast (suc k)
 
--- the orphans from row r of foreign key k on
-unfoldable pub orphansFrom : List ℕ → List ℤ → ℕ → ℕ → List Orphan
-orphansFrom bs ws k r = orphansOf (workOf (schemaOf bs) ws .tabs) k r (drop k (schemaOf bs .keys))
+  -- the orphans that a cursor stands before
+  abbrev pub orphansAt : Cursor → List Orphan
+  orphansAt x = orphansLeft (x .orphan .key) (x .from)
 
--- the orphans that follow o
-abbrev pub orphansAfter : List ℕ → List ℤ → Orphan → List Orphan
-orphansAfter bs ws o = orphansFrom bs ws (o .key) (suc (o .row))
+  -- from row `from` of foreign key k on, x is the first that is an orphan; none is where there is no child row x
+  pub record FirstRow (k : ℕ) (key : KeyRows) (from x : ℕ) : Type 0 where
+    pub rest : orphansLeft k from ≡ orphansLeft k x
+    pub heads : x < key .children .count → orphansLeft k x ≡ record { key = k; row = x } ∷ orphansLeft k (x + 1)
 
--- from row `from` on, x is the first row that passes; none does where there is no row x
-pub record FirstRow (p : Row → Bool) (rows : List Row) (from x : ℕ) : Type 0 where
-  pub rest : passing p from (drop from rows) ≡ passing p x (drop x rows)
-  pub found : x < length rows → p (getD rows x []) ≡ true
+  -- an orphan is left for the cursor x
+  pub record Unfinished (x : Cursor) : Type 0 where
+    pub ready : Ready b a
+    pub key-is : KeyRowsOf b (x .orphan .key) (x .key)
+    pub some : 0 < length (orphansAt x)
 
--- o is the first of the orphans l, if there are any, and the others follow it
-pub record FirstOf (bs : List ℕ) (ws : List ℤ) (l : List Orphan) (o : Orphan) : Type 0 where
-  pub heads : 0 < length l → l ≡ o ∷ orphansAfter bs ws o
-  pub small : o .row < 1024
+  -- the cursor x stands behind the first orphan that y stands before
+  pub record Next (y x : Cursor) : Type 0 where
+    pub heads : orphansAt y ≡ x .orphan ∷ orphansAt x
+    pub key-is : KeyRowsOf b (x .orphan .key) (x .key)
+
+-- the cursor x stands before row 0 of foreign key 0
+pub record Starts (b : List ℕ) (x : Cursor) : Type 0 where
+  pub first-key : x .orphan .key ≡ 0
+  pub first-row : x .from ≡ 0
+  pub key-is : KeyRowsOf b (x .orphan .key) (x .key)

@@ -1,26 +1,66 @@
 // The orphans of an area, one after the other: foreign keys by number, child rows by rising number.
 ghost use mathlib.Core.Path.{_≡_};
-ghost use mathlib.Core.List.{[]};
-ghost use Prim.Native.Nat.{_≤_, _<_};
-ghost use lib.ListN.{length, getD};
-ghost use Rattle.schema.specs.Records.{tableOf, keyOf};
+ghost use Prim.Native.Nat.{_<_};
+ghost use lib.ListN.{length};
 ghost use Rattle.schema.specs.Fields.{schemaOf};
 ghost use Rattle.schema.specs.Check.{checkSchema};
-ghost use Rattle.rules.specs.Keys.{orphan};
-ghost use Rattle.bridge.specs.Fit.{workOf};
 ghost use Rattle.bridge.specs.Ready.{Ready};
-ghost use Rattle.orphan_scan.specs.Scan.{orphansFrom, orphansAfter, FirstRow, FirstOf};
-use rules::Listed;
+ghost use Rattle.orphans.specs.KeyRows.{KeyRowsOf};
+ghost use Rattle.orphan_scan.specs.Scan.{FirstRow, Starts, Unfinished, Next};
+use orphans::KeyRows;
+use rows::TableRows;
 use rules::Orphan;
-use rules::Refusal;
 use schema::SchemaAnswer;
 
-// The first orphan of foreign key k from row `from` on; a number past the child rows where there is none.
-fn next_row(schema: &[u8], area: &[i64], k: usize, from: usize) -> usize
-    requires { ⌜ Ready (now schema) (now area) × (k < length (schemaOf (now schema) .keys)) ⌝ }
-    ensures { λ x. ⌜ FirstRow (orphan (keyOf (schemaOf (now (schema .entry))) k) (getD (workOf (schemaOf (now (schema .entry))) (now (area .entry)) .tabs) (keyOf (schemaOf (now (schema .entry))) k .parent) [])) (getD (workOf (schemaOf (now (schema .entry))) (now (area .entry)) .tabs) (keyOf (schemaOf (now (schema .entry))) k .child) []) from x ⌝ }
+// Where the search stands: its foreign key and the row of the last orphan found, if one was; the child row to go on with; the rows and columns of the foreign key.
+pub struct Cursor {
+    pub orphan: Orphan,
+    pub from: usize,
+    pub key: KeyRows,
+}
+
+// A cursor that stands nowhere: there is nothing to find.
+pub fn nowhere() -> Cursor {
+    let none = TableRows {
+        start: 0,
+        width: 0,
+        count: 0,
+    };
+    let columns = [0usize; 8];
+    Cursor {
+        orphan: Orphan { key: 0, row: 0 },
+        from: 0,
+        key: KeyRows {
+            children: none,
+            parents: none,
+            n: 0,
+            cs: columns,
+            ps: columns,
+        },
+    }
+}
+
+// The cursor before all orphans, where there is a foreign key.
+pub fn start(schema: &[u8]) -> Cursor
+    requires { ⌜ checkSchema (now schema) ≡ SchemaAnswer.Accepted ⌝ }
+    ensures { λ x. ⌜ (0 < length (schemaOf (now (schema .entry)) .keys) → Starts (now (schema .entry)) x) ⌝ }
 {
-    let key = orphans::key_rows(schema, k);
+    if fields::key_count(schema) == 0 {
+        return nowhere();
+    }
+    let key = orphans::key_rows(schema, 0);
+    Cursor {
+        orphan: Orphan { key: 0, row: 0 },
+        from: 0,
+        key: key,
+    }
+}
+
+// The first orphan of foreign key k from row `from` on; a number past the child rows where there is none.
+fn next_row(schema: &[u8], area: &[i64], k: usize, key: KeyRows, from: usize) -> usize
+    requires { ⌜ Ready (now schema) (now area) × KeyRowsOf (now schema) k key ⌝ }
+    ensures { λ x. ⌜ FirstRow (now (schema .entry)) (now (area .entry)) k key from x ⌝ }
+{
     let rows = key.children.count;
     let mut j = from;
     while j < rows {
@@ -32,39 +72,22 @@ fn next_row(schema: &[u8], area: &[i64], k: usize, from: usize) -> usize
     j
 }
 
-// The rows of foreign key k's child table.
-fn child_rows(schema: &[u8], k: usize) -> usize
-    requires { ⌜ (checkSchema (now schema) ≡ SchemaAnswer.Accepted) × (k < length (schemaOf (now schema) .keys)) ⌝ }
-    ensures { λ x. ⌜ (x ≡ tableOf (schemaOf (now (schema .entry))) (keyOf (schemaOf (now (schema .entry))) k .child) .rows) × (x ≤ 1024) ⌝ }
+// The cursor at the next orphan, where there is one.
+pub fn next_orphan(schema: &[u8], area: &[i64], at: Cursor) -> Cursor
+    requires { ⌜ Unfinished (now schema) (now area) at ⌝ }
+    ensures { λ x. ⌜ Next (now (schema .entry)) (now (area .entry)) at x ⌝ }
 {
-    fields::rows(schema, fields::child(schema, k))
-}
-
-// The first orphan from row r of foreign key k on; a place past all foreign keys where there is none.
-pub fn first_from(schema: &[u8], area: &[i64], k: usize, r: usize) -> Orphan
-    requires { ⌜ Ready (now schema) (now area) ⌝ }
-    ensures { λ x. ⌜ FirstOf (now (schema .entry)) (now (area .entry)) (orphansFrom (now (schema .entry)) (now (area .entry)) k r) x ⌝ }
-{
-    let n = fields::key_count(schema);
-    let mut i = k;
-    let mut from = r;
-    while i < n {
-        let j = next_row(schema, area, i, from);
-        if j < child_rows(schema, i) {
-            return Orphan { key: i, row: j };
-        }
-        i += 1;
-        from = 0;
+    let mut k = at.orphan.key;
+    let mut key = at.key;
+    let mut j = next_row(schema, area, k, key, at.from);
+    while key.children.count <= j {
+        k += 1;
+        key = orphans::key_rows(schema, k);
+        j = next_row(schema, area, k, key, 0);
     }
-    Orphan { key: i, row: 0 }
-}
-
-// The orphan that follows the last one found; a place past all foreign keys where there is none.
-pub fn next_orphan(schema: &[u8], area: &[i64], last: Orphan) -> Orphan
-    requires { ⌜ Ready (now schema) (now area) × (last .row < 1024) ⌝ }
-    ensures { λ x. ⌜ FirstOf (now (schema .entry)) (now (area .entry)) (orphansAfter (now (schema .entry)) (now (area .entry)) last) x ⌝ }
-{
-    let k = last.key;
-    let r = last.row;
-    first_from(schema, area, k, r + 1)
+    Cursor {
+        orphan: Orphan { key: k, row: j },
+        from: j + 1,
+        key: key,
+    }
 }

@@ -35,7 +35,7 @@ module _ (b : List ℕ) (a : List ℤ) (k : ℕ) where
   abbrev pub childRows : List Row
   childRows = getD (workOf (schemaOf b) a .tabs) childTable []
 
-  abbrev childAt : ℕ → Row
+  abbrev pub childAt : ℕ → Row
   childAt j = rowAt childTable j (workOf (schemaOf b) a .tabs)
 
   abbrev pub isAlone : Row → Bool

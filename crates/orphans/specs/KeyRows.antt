@@ -1,4 +1,4 @@
--- The child rows of a foreign key, and the columns of its keys.
+-- The rows of a foreign key, and the columns of its keys.
 -- Assumes nothing.
 use mathlib.Core.List.{List}
 use Prim.Native.Nat.{ℕ}
@@ -12,3 +12,4 @@ use Rattle.orphans.specs.declared.KeyRows.{KeyRows}
 pub record KeyRowsOf (b : List ℕ) (k : ℕ) (x : KeyRows) : Type 0 where
   pub columns : KeyColumns b k (x .n) (x .cs) (x .ps)
   pub children : RowsOf b (keyOf (schemaOf b) k .child) (x .children)
+  pub parents : RowsOf b (keyOf (schemaOf b) k .parent) (x .parents)

@@ -14,25 +14,28 @@ ghost use Rattle.orphans.specs.KeyRows.{KeyRowsOf};
 use rows::TableRows;
 use schema::SchemaAnswer;
 
-// The child rows of a foreign key, the n columns of its child key and those of its parent key.
+// The child rows of a foreign key, its parent rows, the n columns of its child key and those of its parent key.
 pub struct KeyRows {
     pub children: TableRows,
+    pub parents: TableRows,
     pub n: usize,
     pub cs: [usize; 8],
     pub ps: [usize; 8],
 }
 
-// The child rows and the columns of foreign key k.
+// The rows and the columns of foreign key k.
 pub fn key_rows(schema: &[u8], k: usize) -> KeyRows
     requires { ⌜ (checkSchema (now schema) ≡ SchemaAnswer.Accepted) × (k < length (schemaOf (now schema) .keys)) ⌝ }
     ensures { λ x. ⌜ KeyRowsOf (now (schema .entry)) k x ⌝ }
 {
     let children = rows::rows_of(schema, fields::child(schema, k));
+    let parents = rows::rows_of(schema, fields::parent(schema, k));
     let n = fields::width(schema, k);
     let cs = fields::child_columns(schema, k);
     let ps = fields::parent_columns(schema, k);
     KeyRows {
         children: children,
+        parents: parents,
         n: n,
         cs: cs,
         ps: ps,
@@ -47,9 +50,10 @@ pub fn is_orphan(schema: &[u8], area: &[i64], k: usize, key: KeyRows, j: usize) 
     let children = key.children;
     let w = children.width;
     let image = words::image_at(area, children.start + j * w, w);
+    let parents = key.parents;
     let cs = key.cs;
     let ps = key.ps;
-    constraints::is_orphan_image(schema, area, k, image, key.n, cs, ps)
+    constraints::is_orphan_among(schema, area, k, image, parents, key.n, cs, ps)
 }
 
 // The orphans of foreign key k, counted from the rows.

@@ -1,11 +1,9 @@
-use mathlib.Core.Path.{sym, ap, _∙_}
-use mathlib.Core.Bool.{not}
+use mathlib.Core.Path.{subst}
+use Prim.Native.Nat.{ℕ}
 use borrow.Author.Needs.{needs}
-use borrow.Author.Tests.{not-true, not-false}
-use Rattle.schema.specs.Records.{keyOf}
-use Rattle.schema.specs.Fields.{schemaOf}
+use Rattle.rows.specs.Standing.{RowsOf}
 use Rattle.rows.proofs.TableLaws.{child-wide}
-use Rattle.constraints.proofs.ServedLaws.{full-due, orphan-undue, orphan-due}
+use Rattle.constraints.proofs.ServedLaws.{orphan-undue, orphan-due}
 use Rattle.constraints.proofs.is_orphan_image.Statement.{statement}
 use Rattle.constraints.proofs.is_orphan_image.Tie as tie
 
@@ -13,22 +11,24 @@ image-full-key-requires : tie.Need-image-full-key-requires
 image-full-key-requires c κs = child-wide _ _ _ _ _ (c .before .pre .1)
 
 returns : tie.Need-returns
-returns c =
-    let s = c .before .before .before in
-    let K = keyOf (schemaOf (s .args .schema .now)) (s .args .k) in
-    let e = sym (full-due K (s .pre .1 .child-is) _) ∙ sym (c .before .image-full-key .ensures) in
-    orphan-undue K _ _ (e ∙ not-true _ (c .if1 .taken))
+returns c = orphan-undue _ (c .before .before .before .pre .1 .child-is) _ _ (c .before .image-full-key .ensures) (c .if1 .taken)
+
+parent-requires : tie.Need-parent-requires
+parent-requires c κs = search needs
+
+rows-of-requires : tie.Need-rows-of-requires
+rows-of-requires c κs = search needs
 
 is-served-requires : tie.Need-is-served-requires
-is-served-requires c κs = search needs
+is-served-requires c κs =
+    let s = c .before .before .before .before .before in
+    let parents = c .rows-of in
+    (s .pre .0, (s .pre .1, subst (λ (t : ℕ). RowsOf (s .args .schema .now) t (parents .result)) (c .before .parent .ensures .0) (parents .ensures)))
 
 returns-2 : tie.Need-returns-2
 returns-2 c =
-    let s = c .before .before .before .before in
-    let K = keyOf (schemaOf (s .args .schema .now)) (s .args .k) in
-    let e = sym (full-due K (s .pre .1 .child-is) _) ∙ sym (c .before .before .image-full-key .ensures) in
-    ap not (c .is-served .ensures) ∙ orphan-due K _ _ (e ∙ not-false _ (c .before .if1 .left))
+    let s = c .before .before .before .before .before .before in
+    orphan-due _ (s .pre .1 .child-is) _ _ (c .before .before .before .before .image-full-key .ensures) (c .is-served .ensures) (c .before .before .before .if1 .left)
 
 pub is-orphan-image-spec : {M : Type 1} → statement M
-is-orphan-image-spec =
-    tie.close (tie.spec image-full-key-requires returns is-served-requires returns-2)
+is-orphan-image-spec = tie.close (tie.spec image-full-key-requires returns parent-requires rows-of-requires is-served-requires returns-2)

@@ -6,7 +6,7 @@ use borrow.Author.Needs.{needs}
 use lib.ListN.{drop}
 use Rattle.schema.specs.Fields.{schemaOf}
 use Rattle.rules.specs.OrphanList.{orphanTotal}
-use Rattle.orphan_scan.proofs.ScanLaws.{tablesIn, total-none, total-more}
+use Rattle.orphan_plan.proofs.PlanLaws.{tablesIn, total-none, total-more}
 use Rattle.orphan_plan.proofs.orphan_total.Statement.{statement}
 use Rattle.orphan_plan.proofs.orphan_total.Tie as tie
 

@@ -1,24 +1,17 @@
 use mathlib.Core.Path.{_≡_, refl, _∙_}
-use mathlib.Core.List.{[]}
 use Prim.Native.Nat.{_-_}
 use native.Mathlib.Omega.{arith}
 use borrow.Author.Needs.{needs}
-use lib.ListN.{drop}
-use Rattle.orphans.proofs.OrphanLaws.{childRows, isAlone, child-is, children-many}
-use Rattle.orphan_scan.specs.Scan.{passing}
-use Rattle.orphan_scan.proofs.ScanLaws.{passing-miss}
+use Rattle.orphan_scan.specs.Scan.{orphansLeft}
+use Rattle.orphan_scan.proofs.ScanLaws.{left-hit, left-miss}
 use Rattle.orphan_scan.proofs.next_row.Statement.{statement}
 use Rattle.orphan_scan.proofs.next_row.Tie as tie
 
 abbrev Inv-loop : tie.InvT-loop
-Inv-loop schema area k from key rows j₀ j =
-    passing (isAlone schema area k) from (drop from (childRows schema area k)) ≡ passing (isAlone schema area k) j (drop j (childRows schema area k))
+Inv-loop schema area k key from rows j₀ j = orphansLeft schema area k from ≡ orphansLeft schema area k j
 
 abbrev μ-loop : tie.MeasureT-loop
-μ-loop schema area k from key rows j₀ j = rows - j
-
-key-rows-requires : tie.Need-key-rows-requires Inv-loop μ-loop
-key-rows-requires c κs = search needs
+μ-loop schema area k key from rows j₀ j = rows - j
 
 loop-holds : tie.Need-loop-holds Inv-loop μ-loop
 loop-holds c = refl
@@ -29,7 +22,8 @@ is-orphan-requires c κs = search needs
 returns : tie.Need-returns Inv-loop μ-loop
 returns c =
     let loop = c .before .before .before .loop in
-    record { rest = loop .inv; found = λ m. child-is _ _ _ (loop .j) (c .before .is-orphan .ensures) ∙ c .if1 .taken }
+    let s = c .before .before .before .before .before in
+    record { rest = loop .inv; heads = λ l. left-hit _ _ (s .pre .0) (s .pre .1) (loop .j) l (c .before .is-orphan .ensures) (c .if1 .taken) }
 
 add-j : tie.Need-add-j Inv-loop μ-loop
 add-j c = search needs
@@ -39,18 +33,12 @@ loop-less c = search needs
 
 loop-again : tie.Need-loop-again Inv-loop μ-loop
 loop-again c =
-    let key-rows = c .before .before .before .before .key-rows in
     let loop = c .before .before .before .loop in
-    let loop-test = c .before .before .loop-test in
-    let read = children-many _ _ _ (c .before .before .before .before .before .before .pre .0) _ (key-rows .ensures) in
-    let miss = child-is _ _ _ (loop .j) (c .before .is-orphan .ensures) ∙ c .if1 .left in
-    loop .inv ∙ passing-miss _ _ (loop .j) [] (omega (arith, read, loop-test .taken)) miss
+    let s = c .before .before .before .before .before in
+    loop .inv ∙ left-miss _ _ (s .pre .0) (s .pre .1) (loop .j) (c .before .before .loop-test .taken) (c .before .is-orphan .ensures) (c .if1 .left)
 
 returns-2 : tie.Need-returns-2 Inv-loop μ-loop
-returns-2 c =
-    let key-rows = c .before .before .key-rows in
-    let read = children-many _ _ _ (c .before .before .before .before .pre .0) _ (key-rows .ensures) in
-    record { rest = c .before .loop .inv; found = λ m. absurd (omega (arith, read, c .loop-test .left, m)) }
+returns-2 c = record { rest = c .before .loop .inv; heads = λ l. absurd (omega (arith, l, c .loop-test .left)) }
 
 pub next-row-spec : {M : Type 1} → statement M
 next-row-spec =
@@ -58,7 +46,6 @@ next-row-spec =
     (tie.spec
     Inv-loop
     μ-loop
-    key-rows-requires
     loop-holds
     is-orphan-requires
     returns

@@ -22,16 +22,16 @@ image-at-requires c κs =
     let stands = child-stands _ _ _ (s .pre .0) _ (s .pre .1 .0) (s .args .j) (s .pre .1 .1) in
     (omega (arith, stands .within), stands .narrow)
 
-is-orphan-image-requires : tie.Need-is-orphan-image-requires
-is-orphan-image-requires c κs = search needs
+is-orphan-among-requires : tie.Need-is-orphan-among-requires
+is-orphan-among-requires c κs = search needs
 
 returns : tie.Need-returns
 returns c =
-    let image-at = c .before .before .before .image-at in
-    let s = c .before .before .before .before .before .before .before in
-    child-judged _ _ _ (s .pre .0) _ (s .pre .1 .0) (s .args .j) (s .pre .1 .1) (c .is-orphan-image .ensures) (image-at .ensures)
+    let image-at = c .before .before .before .before .image-at in
+    let s = c .before .before .before .before .before .before .before .before in
+    child-judged _ _ _ (s .pre .0) _ (s .pre .1 .0) (s .args .j) (s .pre .1 .1) (c .is-orphan-among .ensures) (image-at .ensures)
 
 pub is-orphan-spec : {M : Type 1} → statement M
 is-orphan-spec =
     tie.close
-    (tie.spec mul-image-at add-image-at image-at-requires is-orphan-image-requires returns)
+    (tie.spec mul-image-at add-image-at image-at-requires is-orphan-among-requires returns)

@@ -12,6 +12,12 @@ child-requires c κs = search needs
 rows-of-requires : tie.Need-rows-of-requires
 rows-of-requires c κs = search needs
 
+parent-requires : tie.Need-parent-requires
+parent-requires c κs = search needs
+
+rows-of-requires-2 : tie.Need-rows-of-requires-2
+rows-of-requires-2 c κs = search needs
+
 width-requires : tie.Need-width-requires
 width-requires c κs = search needs
 
@@ -23,9 +29,11 @@ parent-columns-requires c κs = search needs
 
 returns : tie.Need-returns
 returns c =
-    let s = c .before .before .before .before .before .before in
-    let child = c .before .before .before .before .child in
-    let children = c .before .before .before .rows-of in
+    let s = c .before .before .before .before .before .before .before .before in
+    let child = c .before .before .before .before .before .before .child in
+    let children = c .before .before .before .before .before .rows-of in
+    let parent = c .before .before .before .before .parent in
+    let parents = c .before .before .before .rows-of2 in
     let cs = c .before .child-columns in
     let ps = c .parent-columns in
     let b = s .args .schema .now in
@@ -33,6 +41,7 @@ returns c =
     record {
       columns = key-columns b (s .pre .0) (s .args .k) (s .pre .1) width (ps .result) (ps .ensures) (cs .result) (cs .ensures);
       children = subst (λ (t : ℕ). RowsOf b t (children .result)) (child .ensures .0) (children .ensures);
+      parents = subst (λ (t : ℕ). RowsOf b t (parents .result)) (parent .ensures .0) (parents .ensures);
     }
 
 pub key-rows-spec : {M : Type 1} → statement M
@@ -41,6 +50,8 @@ key-rows-spec =
     (tie.spec
     child-requires
     rows-of-requires
+    parent-requires
+    rows-of-requires-2
     width-requires
     child-columns-requires
     parent-columns-requires
