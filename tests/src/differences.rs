@@ -1,6 +1,7 @@
 //! What is printed of an operation on which an engine and the model differ.
 
-use crate::engine::Answer;
+use crate::engine::{Answer, Listed, Orphan};
+use std::fmt::Display;
 
 pub fn hex(bytes: &[u8]) -> String {
     bytes.iter().map(|byte| format!("{:02X}", byte)).collect()
@@ -15,14 +16,19 @@ pub fn words(area: &[i64]) -> String {
 
 /// The first words in which two areas differ.
 pub fn first_words(found: &[i64], expected: &[i64]) -> String {
+    first_unequal("word", found, expected)
+}
+
+/// The first words or records, as they are named, in which two slices differ.
+fn first_unequal<T: Display + PartialEq>(name: &str, found: &[T], expected: &[T]) -> String {
     let pairs = found.iter().zip(expected).enumerate();
     let unequal = pairs.filter(|(_, (found, expected))| found != expected);
     let shown: Vec<String> = unequal
         .take(8)
-        .map(|(at, (found, expected))| format!("word {}: {}, model {}", at, found, expected))
+        .map(|(at, (found, expected))| format!("{} {}: {}, model {}", name, at, found, expected))
         .collect();
     if shown.is_empty() {
-        "every word equal".into()
+        format!("every {} equal", name)
     } else {
         shown.join("; ")
     }
@@ -40,6 +46,23 @@ pub fn of_call(
         expected,
         first_words(found_words, expected_words),
         call,
+        hex(schema),
+        words(area)
+    )
+}
+
+/// Both results of an orphan list, and what it was made on. Record 0 stands before the lent ones.
+pub fn of_list(
+    (schema, area, room): (&[u8], &[i64], usize),
+    (found, found_list): (Listed, &[Orphan]),
+    (expected, expected_list): (Listed, &[Orphan]),
+) -> String {
+    format!(
+        "orphans {}, model {}; {}; {} records lent; schema {}; area {}",
+        found,
+        expected,
+        first_unequal("record", found_list, expected_list),
+        room,
         hex(schema),
         words(area)
     )

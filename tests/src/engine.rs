@@ -43,6 +43,12 @@ pub struct Listed {
     pub count: i64,
 }
 
+impl fmt::Display for Listed {
+    fn fmt(&self, out: &mut fmt::Formatter) -> fmt::Result {
+        write!(out, "{},{}", self.code, self.count)
+    }
+}
+
 /// A record of the orphan list.
 #[repr(C)]
 #[derive(Clone, Copy, Debug, PartialEq, PartialOrd, Eq, Ord)]
@@ -57,6 +63,12 @@ impl Orphan {
             foreign_key: foreign_key as u64,
             row: row as u64,
         }
+    }
+}
+
+impl fmt::Display for Orphan {
+    fn fmt(&self, out: &mut fmt::Formatter) -> fmt::Result {
+        write!(out, "key {} row {}", self.foreign_key, self.row)
     }
 }
 

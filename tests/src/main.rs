@@ -1,5 +1,6 @@
 //! Tests of the record engine. Each suite reports its tests by name; the last line counts them.
 
+mod counts;
 mod differences;
 mod edges;
 mod engine;

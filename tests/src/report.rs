@@ -30,6 +30,16 @@ impl Report {
         self.test(name, outcome);
     }
 
+    /// Prints the counts in one line, and counts a test for each: that it is not below the least.
+    pub fn counts(&mut self, title: &str, least: usize, counts: &[(String, usize)]) {
+        let mut shown = Vec::new();
+        for (name, count) in counts {
+            shown.push(format!("{}: {}", name, count));
+            self.at_least(&format!("{}: {}", title, name), least, *count);
+        }
+        println!("{}: {}", title, shown.join(", "));
+    }
+
     /// Prints the last line.
     pub fn finish(self) -> ExitCode {
         println!("{} passed, {} failed", self.passed, self.failed);

@@ -3,6 +3,7 @@
 
 mod build;
 mod limits;
+mod lists;
 mod paper;
 mod students;
 mod words;
@@ -18,7 +19,7 @@ pub enum Step {
     Call(Vec<i64>),
     /// Prints the live rows.
     ShowRows,
-    /// Prints the orphans, by foreign key and row.
+    /// Prints the orphan list as the engine gives it.
     ShowOrphans,
 }
 
@@ -35,10 +36,15 @@ net is the change in all kept orphans. c0 is a table's first column.
 ";
 
 pub fn all() -> Vec<Case> {
-    [paper::cases(), limits::cases(), students::cases()]
-        .into_iter()
-        .flatten()
-        .collect()
+    [
+        paper::cases(),
+        limits::cases(),
+        students::cases(),
+        lists::cases(),
+    ]
+    .into_iter()
+    .flatten()
+    .collect()
 }
 
 /// The text of all cases, run by an engine.
@@ -72,9 +78,7 @@ fn orphan_line(engine: &dyn Engine, schema: &[u8], area: &[i64]) -> String {
     let mut list = vec![Orphan::new(0, 0); 100];
     let listed = engine.list_orphans(schema, area, &mut list);
     list.truncate(listed.count as usize);
-    list.sort();
-    let named = |o: &Orphan| format!("key {} row {}", o.foreign_key, o.row);
-    let shown: Vec<String> = list.iter().map(named).collect();
+    let shown: Vec<String> = list.iter().map(Orphan::to_string).collect();
     format!("  orphans: {} [{}]", listed.count, shown.join(", "))
 }
 

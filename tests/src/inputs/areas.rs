@@ -133,3 +133,15 @@ pub fn chained(r: &mut Random, ground: &Ground) -> Vec<i64> {
     }
     area.words
 }
+
+/// Each row of table 0 refers by its second column to a key that no row has.
+pub fn all_orphans(ground: &Ground) -> Vec<i64> {
+    let mut area = Area {
+        schema: &ground.schema,
+        words: ground.fresh(),
+    };
+    for row in 0..ground.schema.tables[0].rows {
+        area.put_row(0, row, Some(&vec![Some(row as i64), Some(-1)]));
+    }
+    area.words
+}

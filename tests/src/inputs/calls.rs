@@ -36,6 +36,22 @@ pub fn any(r: &mut Random, ground: &Ground, area: &[i64]) -> Vec<i64> {
     }
 }
 
+/// A call that opens a transaction where none is open. Inside one, most are inserts of any values,
+/// often in the first or the last row of a table.
+pub fn leading_to_orphans(r: &mut Random, ground: &Ground, area: &[i64]) -> Vec<i64> {
+    if area[0] == 0 {
+        return plain_call(r.pick(&[4, 5]), 0);
+    }
+    if r.once_in(3) {
+        return any(r, ground, area);
+    }
+    let table = r.between(0, ground.schema.tables.len() - 1);
+    let rows = ground.schema.tables[table].rows;
+    let columns = 0..ground.schema.tables[table].columns;
+    let new: Row = columns.map(|c| value(r, ground, table, c)).collect();
+    row_call(1, table, r.edged(0, rows - 1), &new)
+}
+
 fn transaction_call(r: &mut Random, open: i64) -> Vec<i64> {
     let suits_none = [4, 4, 5, 5, 5];
     let suits_open = [5, 5, 5, 5, 5, 6, 6, 7, 7, 7, 8, 9, 9];

@@ -2,6 +2,7 @@
 //! that are worth nothing. The tests must tell each from the paper's.
 
 mod actions;
+mod orphan_list;
 mod refusals;
 mod transactions;
 mod worthless;
@@ -15,7 +16,12 @@ pub type Mistake = (&'static str, fn(&mut Rules));
 
 /// The engines with their names.
 pub fn all() -> Vec<(&'static str, Box<dyn Engine>)> {
-    let lists = [actions::ALL, refusals::ALL, transactions::ALL];
+    let lists = [
+        actions::ALL,
+        refusals::ALL,
+        transactions::ALL,
+        orphan_list::ALL,
+    ];
     let misread = lists.into_iter().flatten().map(|&(name, change)| {
         let mut model = Model::of_the_paper();
         change(&mut model.rules);

@@ -3,11 +3,10 @@
 use crate::engine::{Answer, Engine, Listed, Orphan};
 use crate::model::Model;
 
-/// The model, but for its calls and its orphan list.
+/// The model, but for its calls.
 struct Worthless {
     model: Model,
     call: fn(&Model, &[u8], &mut [i64], &[i64]) -> Answer,
-    orphans: fn(&Model, &[u8], &[i64], &mut [Orphan]) -> Listed,
 }
 
 type Named = (&'static str, Box<dyn Engine>);
@@ -23,25 +22,6 @@ pub fn all() -> Vec<Named> {
             net: 0,
             ..model.call(schema, area, call)
         }),
-        with_orphans("lists no orphan", |model, schema, area, list| {
-            let listed = model.list_orphans(schema, area, list);
-            Listed { count: 0, ..listed }
-        }),
-        with_orphans("lists one orphan twice", |model, schema, area, list| {
-            let listed = model.list_orphans(schema, area, list);
-            if listed.count > 1 {
-                list[1] = list[0];
-            }
-            listed
-        }),
-        with_orphans(
-            "clears the records past the list",
-            |model, schema, area, list| {
-                let listed = model.list_orphans(schema, area, list);
-                list[listed.count as usize..].fill(Orphan::new(0, 0));
-                listed
-            },
-        ),
     ]
 }
 
@@ -49,19 +29,6 @@ fn with_calls(name: &'static str, call: fn(&Model, &[u8], &mut [i64], &[i64]) ->
     let engine = Worthless {
         model: Model::of_the_paper(),
         call,
-        orphans: |model, schema, area, list| model.list_orphans(schema, area, list),
-    };
-    (name, Box::new(engine))
-}
-
-fn with_orphans(
-    name: &'static str,
-    orphans: fn(&Model, &[u8], &[i64], &mut [Orphan]) -> Listed,
-) -> Named {
-    let engine = Worthless {
-        model: Model::of_the_paper(),
-        call: |model, schema, area, call| model.call(schema, area, call),
-        orphans,
     };
     (name, Box::new(engine))
 }
@@ -84,6 +51,6 @@ impl Engine for Worthless {
     }
 
     fn list_orphans(&self, schema: &[u8], area: &[i64], list: &mut [Orphan]) -> Listed {
-        (self.orphans)(&self.model, schema, area, list)
+        self.model.list_orphans(schema, area, list)
     }
 }

@@ -5,6 +5,7 @@ pub mod change;
 pub mod damage;
 pub mod form;
 pub mod keys;
+pub mod list;
 pub mod program;
 pub mod rules;
 pub mod schema;
@@ -75,16 +76,12 @@ impl Model {
         statement::run(&self.rules, area, table, row, new)
     }
 
-    /// All orphans counted from the rows, by foreign key, then by child row.
+    /// The orphans of an area in the sequence of the list, or refusal 1, 2, 3 or 10.
     pub fn orphans(&self, schema: &[u8], area: &[i64]) -> Result<Vec<Orphan>, i64> {
         let schema = Schema::read(schema)?;
         let book = of_length(&schema, area)?;
         self.judge_damage(&book)?;
-        let of_key = |k: usize| {
-            let rows = keys::orphans(&self.rules, &book, k).into_iter();
-            rows.map(move |row| Orphan::new(k, row))
-        };
-        Ok((0..schema.keys.len()).flat_map(of_key).collect())
+        Ok(list::orphans(&self.rules, &book))
     }
 }
 
@@ -127,15 +124,12 @@ impl Engine for Model {
     }
 
     fn list_orphans(&self, schema: &[u8], area: &[i64], list: &mut [Orphan]) -> Listed {
-        match self.orphans(schema, area) {
-            Err(code) => Listed { code, count: 0 },
-            Ok(orphans) if orphans.len() > list.len() => Listed { code: 22, count: 0 },
-            Ok(orphans) => {
-                list[..orphans.len()].copy_from_slice(&orphans);
-                Listed {
-                    code: 0,
-                    count: orphans.len() as i64,
-                }
+        let orphans = self.orphans(schema, area);
+        match orphans.and_then(|orphans| list::write(&self.rules, &orphans, list)) {
+            Ok(count) => Listed { code: 0, count },
+            Err(code) => {
+                (self.rules.list_refused)(list);
+                Listed { code, count: 0 }
             }
         }
     }

@@ -6,9 +6,11 @@ use super::change::{self, Check};
 use super::damage;
 use super::form;
 use super::keys;
+use super::list;
 use super::schema::{Action, Key, Row, Schema};
 use super::statement::{self, End};
 use super::transaction;
+use crate::engine::Orphan;
 
 #[derive(Clone)]
 pub struct Rules {
@@ -60,6 +62,16 @@ pub struct Rules {
     pub undone: fn(&mut Area, usize, usize),
     /// Gives the kept numbers back that a level saved.
     pub restore: fn(&mut Area, usize),
+    /// What the list makes of all orphans, which are given by foreign key, then by child row.
+    pub listed: fn(&Schema, Vec<Orphan>) -> Vec<Orphan>,
+    /// Whether so many orphans fit into a list of so many records.
+    pub fits: fn(usize, usize) -> bool,
+    /// Writes the orphans into a list that they fit into.
+    pub write_list: fn(&[Orphan], &mut [Orphan]),
+    /// What is done to a list that is too short for the orphans.
+    pub too_short: fn(&[Orphan], &mut [Orphan]),
+    /// What a refusal leaves in a list.
+    pub list_refused: fn(&mut [Orphan]),
 }
 
 impl Rules {
@@ -89,6 +101,11 @@ impl Rules {
             undo_sequence: |records| records.into_iter().rev().collect(),
             undone: |area, from, used| area.zero_records(from..used),
             restore: transaction::restore,
+            listed: |_, orphans| orphans,
+            fits: |orphans, records| orphans <= records,
+            write_list: list::write_records,
+            too_short: |_, _| {},
+            list_refused: |_| {},
         }
     }
 }

@@ -3,6 +3,7 @@
 pub use super::binding::version;
 use super::binding::{Connection, Statement};
 use super::statements;
+use crate::engine::Orphan;
 use crate::model::form::Call;
 use crate::model::schema::{Row, Schema, Value};
 
@@ -12,7 +13,10 @@ struct Table {
     update: Statement,
     delete: Statement,
     select: Statement,
+    orphans: Statement,
     columns: usize,
+    /// The foreign keys whose child it is, rising.
+    keys: Vec<usize>,
 }
 
 pub struct Database {
@@ -31,18 +35,10 @@ impl Database {
         for number in numbers.clone() {
             connection.execute(&statements::create_table(schema, number));
         }
-        let table = |number: usize| {
-            let columns = schema.tables[number].columns;
-            Table {
-                insert: connection.prepare(&statements::insert(number, columns)),
-                update: connection.prepare(&statements::update(number, columns)),
-                delete: connection.prepare(&statements::delete(number)),
-                select: connection.prepare(&statements::select(number)),
-                columns,
-            }
-        };
         Database {
-            tables: numbers.map(table).collect(),
+            tables: numbers
+                .map(|number| Table::new(&connection, schema, number))
+                .collect(),
             open: 0,
             connection,
         }
@@ -99,5 +95,38 @@ impl Database {
             (number as usize, row[1..].to_vec())
         };
         rows.into_iter().map(split).collect()
+    }
+
+    /// The orphans of all tables, by foreign key, then by row.
+    pub fn orphans(&self) -> Vec<Orphan> {
+        let mut orphans: Vec<Orphan> = self.tables.iter().flat_map(Table::orphans).collect();
+        orphans.sort();
+        orphans
+    }
+}
+
+impl Table {
+    fn new(connection: &Connection, schema: &Schema, number: usize) -> Table {
+        let columns = schema.tables[number].columns;
+        let keys = 0..schema.keys.len();
+        Table {
+            insert: connection.prepare(&statements::insert(number, columns)),
+            update: connection.prepare(&statements::update(number, columns)),
+            delete: connection.prepare(&statements::delete(number)),
+            select: connection.prepare(&statements::select(number)),
+            orphans: connection.prepare(&statements::orphans(number)),
+            columns,
+            keys: keys.filter(|&k| schema.keys[k].child == number).collect(),
+        }
+    }
+
+    /// The orphans among its rows, in SQLite's sequence.
+    fn orphans(&self) -> Vec<Orphan> {
+        let found = self.orphans.rows(4).expect("orphans can be read");
+        let orphan = |line: Vec<Value>| {
+            let number = |place: usize| line[place].expect("it is a number") as usize;
+            Orphan::new(self.keys[number(3)], number(1))
+        };
+        found.into_iter().map(orphan).collect()
     }
 }

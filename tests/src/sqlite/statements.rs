@@ -2,8 +2,8 @@
 
 use crate::model::schema::{Key, Schema, Table};
 
-/// A table with the row number `r` and columns `c0` onwards. SQLite runs the foreign keys declared
-/// last first, so they are declared from the last to the first.
+/// A table with the row number `r` and columns `c0` onwards. SQLite numbers and runs the foreign
+/// keys declared last first, so they are declared from the last to the first.
 pub fn create_table(schema: &Schema, number: usize) -> String {
     let table = &schema.tables[number];
     let mut parts = vec!["r INTEGER PRIMARY KEY".to_string()];
@@ -67,4 +67,10 @@ pub fn delete(number: usize) -> String {
 /// All rows, by number.
 pub fn select(number: usize) -> String {
     format!("SELECT * FROM t{} ORDER BY r", number)
+}
+
+/// The orphans among the rows: the table, the row number, the parent table, and the number of the
+/// foreign key among those of the table.
+pub fn orphans(number: usize) -> String {
+    format!("PRAGMA foreign_key_check(t{})", number)
 }

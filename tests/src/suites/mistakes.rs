@@ -5,6 +5,7 @@ use crate::mistakes;
 use crate::random::Random;
 use crate::report::Report;
 use crate::trials::operations::Operations;
+use crate::trials::orphan_lists::OrphanLists;
 use crate::trials::replay::Replay;
 use crate::trials::sqlite::Alike;
 
@@ -15,6 +16,10 @@ const PARTS: &[Part] = &[
     ("single operations", |engine, r| {
         let mut operations = Operations::new();
         (0..40_000).any(|_| operations.trial(engine, r).is_err())
+    }),
+    ("orphan lists", |engine, r| {
+        let mut lists = OrphanLists::new();
+        (0..10).any(|_| lists.trial(engine, r).is_err())
     }),
     ("lists replayed", |engine, r| {
         let mut replay = Replay::new();

@@ -3,6 +3,7 @@
 mod edges;
 mod mistakes;
 mod operations;
+mod orphan_lists;
 mod program;
 mod replay;
 mod schema;
@@ -17,6 +18,7 @@ pub type Suite = fn(&mut Random, &mut Report);
 pub const ALL: &[(&str, Suite)] = &[
     ("schema", schema::run),
     ("operations", operations::run),
+    ("orphan_lists", orphan_lists::run),
     ("replay", replay::run),
     ("edges", edges::run),
     ("sqlite", sqlite::run),

@@ -10,6 +10,10 @@ use crate::trials::sqlite::Alike;
 const LEAST_CALLS: usize = 60_000;
 const LEAST_ACCEPTED: usize = 20_000;
 
+/// How many orphan lists there are to be, and how many with orphans.
+const LEAST_LISTS: usize = 10_000;
+const LEAST_WITH_ORPHANS: usize = 1_000;
+
 pub fn run(r: &mut Random, report: &mut Report) {
     let mut alike = Alike::new();
     let mut outcome = Ok(());
@@ -24,7 +28,17 @@ pub fn run(r: &mut Random, report: &mut Report) {
         alike.by_order,
         alike.by_limit
     );
-    report.test("calls compared with SQLite", outcome);
+    println!(
+        "{} orphan lists compared with SQLite: {} with orphans",
+        alike.lists, alike.with_orphans
+    );
+    report.test("calls and orphan lists compared with SQLite", outcome);
     report.at_least("calls sent to SQLite", LEAST_CALLS, alike.calls);
     report.at_least("calls that SQLite accepts", LEAST_ACCEPTED, alike.accepted);
+    report.at_least("orphan lists of SQLite", LEAST_LISTS, alike.lists);
+    report.at_least(
+        "orphan lists of SQLite with orphans",
+        LEAST_WITH_ORPHANS,
+        alike.with_orphans,
+    );
 }

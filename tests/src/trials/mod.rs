@@ -1,6 +1,9 @@
 //! Comparisons of an engine with the model, with itself and with SQLite, on random inputs.
 
+pub mod lent_list;
 pub mod operations;
+pub mod orphan_lists;
 pub mod program;
 pub mod replay;
+pub mod situations;
 pub mod sqlite;

@@ -1,37 +1,32 @@
-//! Single operations: an engine against the model, answer and every word.
+//! Single operations: an engine against the model, answer, every word and every record.
 
+use super::lent_list::LentLists;
+use crate::counts::Counts;
 use crate::differences::{hex, of_call, words};
-use crate::engine::{Engine, Listed, Orphan};
+use crate::engine::Engine;
+use crate::inputs::broken::broken;
 use crate::inputs::grounds::{self, Ground};
 use crate::inputs::{areas, calls, damages, malformed};
 use crate::model::Model;
 use crate::random::Random;
-use crate::schema_bytes::breaks;
-use std::collections::BTreeMap;
 
 type Outcome = Result<(), String>;
 
-/// What a record of the orphan list holds before.
-const BLANK: Orphan = Orphan {
-    foreign_key: 77,
-    row: u64::MAX,
-};
-
 pub struct Operations {
     model: Model,
-    pub calls: usize,
+    /// How many calls had each code.
+    pub calls: Counts<i64>,
+    pub lists: LentLists,
     pub others: usize,
-    /// How many calls and orphan lists had each code.
-    pub codes: BTreeMap<i64, usize>,
 }
 
 impl Operations {
     pub fn new() -> Operations {
         Operations {
             model: Model::of_the_paper(),
-            calls: 0,
+            calls: Counts::default(),
+            lists: LentLists::new(),
             others: 0,
-            codes: BTreeMap::new(),
         }
     }
 
@@ -59,20 +54,20 @@ impl Operations {
             let area = damages::of_wrong_length(r, area);
             self.call(engine, &g.bytes, &area, &call)?;
             self.fresh(engine, &g.bytes, &area)?;
-            self.orphans(engine, r, &g.bytes, &area)?;
+            self.lists.compare(engine, r, &g.bytes, &area)?;
         }
         if r.once_in(10) {
             let schema = broken(r, g);
             self.call(engine, &schema, area, &call)?;
             self.fresh(engine, &schema, area)?;
-            self.orphans(engine, r, &schema, area)?;
+            self.lists.compare(engine, r, &schema, area)?;
         }
         if r.once_in(10) {
             self.fresh(engine, &g.bytes, &damaged)?;
-            self.orphans(engine, r, &g.bytes, &damaged)?;
+            self.lists.compare(engine, r, &g.bytes, &damaged)?;
         }
         if r.once_in(4) {
-            self.orphans(engine, r, &g.bytes, area)?;
+            self.lists.compare(engine, r, &g.bytes, area)?;
         }
         Ok(())
     }
@@ -88,8 +83,7 @@ impl Operations {
         let (mut found_words, mut expected_words) = (area.to_vec(), area.to_vec());
         let found = engine.call(schema, &mut found_words, call);
         let expected = self.model.call(schema, &mut expected_words, call);
-        self.calls += 1;
-        *self.codes.entry(expected.code).or_default() += 1;
+        self.calls.add(expected.code);
         if found == expected && found_words == expected_words {
             return Ok(expected_words);
         }
@@ -120,55 +114,6 @@ impl Operations {
             words(area)
         ))
     }
-
-    /// Compares the orphan list as a set, in a list of about the length needed.
-    fn orphans(
-        &mut self,
-        engine: &dyn Engine,
-        r: &mut Random,
-        schema: &[u8],
-        area: &[i64],
-    ) -> Outcome {
-        let needed = self
-            .model
-            .orphans(schema, area)
-            .map_or(0, |list| list.len());
-        let room = r.edged(needed.saturating_sub(1), needed + 3);
-        let mut found_list = vec![BLANK; room];
-        let mut expected_list = found_list.clone();
-        let found = engine.list_orphans(schema, area, &mut found_list);
-        let expected = self.model.list_orphans(schema, area, &mut expected_list);
-        let count = (found.count.max(0) as usize).min(room);
-        found_list[..count].sort();
-        self.others += 1;
-        *self.codes.entry(expected.code).or_default() += 1;
-        if found == expected && found_list == expected_list {
-            return Ok(());
-        }
-        Err(of_orphans(
-            schema,
-            area,
-            (found, &found_list),
-            (expected, &expected_list),
-        ))
-    }
-}
-
-fn of_orphans(
-    schema: &[u8],
-    area: &[i64],
-    (found, found_list): (Listed, &[Orphan]),
-    (expected, expected_list): (Listed, &[Orphan]),
-) -> String {
-    format!(
-        "orphans: {:?} {:?}, model {:?} {:?}; schema {}; area {}",
-        found,
-        found_list,
-        expected,
-        expected_list,
-        hex(schema),
-        words(area)
-    )
 }
 
 /// A schema, an area of it, and how many calls are made from there on.
@@ -195,18 +140,4 @@ fn start(r: &mut Random) -> (Ground, Vec<i64>, usize) {
             (ground, area, 60)
         }
     }
-}
-
-/// The bytes of the schema with one rule broken; of one without a foreign key, with a byte changed.
-fn broken(r: &mut Random, ground: &Ground) -> Vec<u8> {
-    let mut records = ground.records.clone();
-    if records.keys.is_empty() {
-        let mut bytes = ground.bytes.clone();
-        let at = r.between(0, bytes.len() - 1);
-        bytes[at] ^= r.between(1, 255) as u8;
-        return bytes;
-    }
-    let (_, _, change) = r.pick(&breaks::all());
-    change(&mut records, r);
-    records.bytes()
 }

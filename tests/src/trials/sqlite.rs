@@ -1,17 +1,20 @@
-//! An engine against stock SQLite on lists of calls: accepted or refused, and the rows.
+//! An engine against stock SQLite on lists of calls: accepted or refused, the rows, and after some
+//! calls the orphan list.
 //!
 //! The rule by which calls are left out: a call is sent to neither where the model refuses it by a
 //! limit (13, 14, 15), or where another order of foreign keys or of rows would give another outcome.
+//! SQLite lists orphans in a sequence of its own: they are sorted, and the engine's are taken as
+//! they come.
 
 use crate::differences::hex;
-use crate::engine::{Answer, Engine};
+use crate::engine::{Answer, Engine, Orphan};
 use crate::inputs::calls;
 use crate::inputs::grounds::{self, Ground};
 use crate::model::area::Area;
 use crate::model::form;
 use crate::model::keys::having;
 use crate::model::rules::Rules;
-use crate::model::schema::Row;
+use crate::model::schema::{Key, Row};
 use crate::model::Model;
 use crate::random::Random;
 use crate::sqlite::database::Database;
@@ -27,6 +30,9 @@ pub struct Alike {
     pub accepted: usize,
     pub by_order: usize,
     pub by_limit: usize,
+    /// How many orphan lists were compared, and how many of them had orphans.
+    pub lists: usize,
+    pub with_orphans: usize,
 }
 
 impl Alike {
@@ -38,6 +44,8 @@ impl Alike {
             accepted: 0,
             by_order: 0,
             by_limit: 0,
+            lists: 0,
+            with_orphans: 0,
         }
     }
 
@@ -55,6 +63,10 @@ impl Alike {
             sent.push(call);
             self.compare(engine, &ground, &mut area, &mut database, &sent)
                 .map_err(|why| told(&ground, &sent, &why))?;
+            if r.once_in(4) {
+                self.compare_list(engine, &ground, &area, &database)
+                    .map_err(|why| told(&ground, &sent, &why))?;
+            }
         }
         Ok(())
     }
@@ -108,6 +120,28 @@ impl Alike {
             }
         }
         Ok(())
+    }
+
+    /// Compares the orphan list.
+    fn compare_list(
+        &mut self,
+        engine: &dyn Engine,
+        ground: &Ground,
+        area: &[i64],
+        database: &Database,
+    ) -> Outcome {
+        let rows = |key: &Key| ground.schema.tables[key.child].rows;
+        let most = ground.schema.keys.iter().map(rows).sum();
+        let mut list = vec![Orphan::new(0, 0); most];
+        let listed = engine.list_orphans(&ground.bytes, area, &mut list);
+        list.truncate(listed.count as usize);
+        let kept = database.orphans();
+        self.lists += 1;
+        self.with_orphans += usize::from(!kept.is_empty());
+        if listed.code == 0 && list == kept {
+            return Ok(());
+        }
+        Err(format!("orphans {} {:?}, SQLite {:?}", listed, list, kept))
     }
 }
 

@@ -1,0 +1,24 @@
+//! How often each of several things was met.
+
+use std::collections::BTreeMap;
+use std::fmt::Display;
+
+#[derive(Default)]
+pub struct Counts<K>(BTreeMap<K, usize>);
+
+impl<K: Display + Ord> Counts<K> {
+    pub fn add(&mut self, met: K) {
+        *self.0.entry(met).or_default() += 1;
+    }
+
+    /// All counts together.
+    pub fn sum(&self) -> usize {
+        self.0.values().sum()
+    }
+
+    /// The names of these things, each with its count.
+    pub fn of(&self, things: &[K]) -> Vec<(String, usize)> {
+        let count = |thing: &K| self.0.get(thing).copied().unwrap_or(0);
+        things.iter().map(|k| (k.to_string(), count(k))).collect()
+    }
+}

@@ -1,0 +1,122 @@
+//! What there is to see in an orphan list, by name, so that it can be counted.
+
+use super::lent_list::Compared;
+use crate::engine::Orphan;
+use crate::model::schema::{Key, Schema};
+use std::collections::BTreeSet;
+
+/// A list that was compared.
+pub struct Seen<'a> {
+    schema: &'a Schema,
+    /// How many orphans there are, and how many records were lent.
+    orphans: usize,
+    room: usize,
+    /// The list that was given, empty where there was no room.
+    list: &'a [Orphan],
+    /// The foreign keys in the list, each once.
+    keys: Vec<usize>,
+}
+
+/// A name, and whether it is to be seen in a list.
+pub type Situation = (&'static str, fn(&Seen) -> bool);
+
+pub const SITUATIONS: &[Situation] = &[
+    ("two or more keys", |s| s.keys.len() > 1),
+    ("a key without orphans between others", |s| {
+        s.keys.windows(2).any(|pair| pair[0] + 1 < pair[1])
+    }),
+    ("a row under several keys", row_under_several_keys),
+    ("equal keys", |s| s.any_two_keys(refer_alike)),
+    ("a self-referring key", |s| {
+        s.any_key(|key| key.child == key.parent)
+    }),
+    ("a child table before its parent", |s| {
+        s.any_key(|key| key.child < key.parent)
+    }),
+    ("a child table after its parent", |s| {
+        s.any_key(|key| key.child > key.parent)
+    }),
+    ("a later child table first", |s| {
+        s.any_two_keys(|one, later| one.child > later.child)
+    }),
+    ("a key of two columns", |s| {
+        s.any_key(|key| key.child_columns.len() == 2)
+    }),
+    ("the first and the last of 32 keys", |s| {
+        s.keys.first() == Some(&0) && s.keys.last() == Some(&31)
+    }),
+    ("a table's first and last row", |s| {
+        s.any_first_and_last_row(|rows| rows > 1)
+    }),
+    ("the first and the last of 1,024 rows", |s| {
+        s.any_first_and_last_row(|rows| rows == 1024)
+    }),
+    ("no foreign key", |s| s.schema.keys.is_empty() && s.room > 0),
+    ("no orphan of any key", |s| {
+        !s.schema.keys.is_empty() && s.orphans == 0 && s.room > 0
+    }),
+    ("exactly as long", |s| s.orphans > 0 && s.room == s.orphans),
+    ("one longer", |s| s.orphans > 0 && s.room == s.orphans + 1),
+    ("much longer", |s| s.orphans > 0 && s.room > s.orphans + 1),
+    ("one shorter", |s| s.room > 0 && s.room + 1 == s.orphans),
+    ("no record for orphans", |s| s.orphans > 0 && s.room == 0),
+    ("no record for none", |s| s.orphans == 0 && s.room == 0),
+];
+
+/// The names of the situations that a list shows. It was not refused by 1, 2, 3 or 10.
+pub fn of(schema: &Schema, compared: &Compared) -> Vec<&'static str> {
+    let orphans = &compared.orphans;
+    let list = match compared.code {
+        0 => &orphans[..],
+        _ => &[],
+    };
+    let mut keys: Vec<usize> = list.iter().map(|o| o.foreign_key as usize).collect();
+    keys.dedup();
+    let seen = Seen {
+        schema,
+        orphans: orphans.len(),
+        room: compared.room,
+        list,
+        keys,
+    };
+    let shown = SITUATIONS.iter().filter(|situation| (situation.1)(&seen));
+    shown.map(|situation| situation.0).collect()
+}
+
+impl Seen<'_> {
+    fn key(&self, number: usize) -> &Key {
+        &self.schema.keys[number]
+    }
+
+    fn any_key(&self, is: fn(&Key) -> bool) -> bool {
+        self.keys.iter().any(|&number| is(self.key(number)))
+    }
+
+    /// Whether two keys in the list, the earlier first, stand so to each other.
+    fn any_two_keys(&self, stand: fn(&Key, &Key) -> bool) -> bool {
+        let later = |place: usize| self.keys[place + 1..].iter();
+        let mut keys = self.keys.iter().enumerate();
+        keys.any(|(place, &one)| later(place).any(|&two| stand(self.key(one), self.key(two))))
+    }
+
+    /// Whether the list has both the first and the last row under a key, of so many rows.
+    fn any_first_and_last_row(&self, of: fn(usize) -> bool) -> bool {
+        let listed = |key, row| self.list.contains(&Orphan::new(key, row));
+        let rows = |key: usize| self.schema.tables[self.key(key).child].rows;
+        let mut keys = self.keys.iter();
+        keys.any(|&key| of(rows(key)) && listed(key, 0) && listed(key, rows(key) - 1))
+    }
+}
+
+fn row_under_several_keys(seen: &Seen) -> bool {
+    let place = |orphan: &Orphan| (seen.key(orphan.foreign_key as usize).child, orphan.row);
+    let places: BTreeSet<(usize, u64)> = seen.list.iter().map(place).collect();
+    places.len() < seen.list.len()
+}
+
+/// Whether two keys differ at most in their actions and in being deferred.
+fn refer_alike(one: &Key, other: &Key) -> bool {
+    (one.child, one.parent) == (other.child, other.parent)
+        && one.child_columns == other.child_columns
+        && one.parent_columns == other.parent_columns
+}
