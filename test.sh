@@ -28,10 +28,10 @@ counted() {
     return 1
 }
 
-# Installs Debian's cargo, rustc, gcc, python3 and libsqlite3-dev where one of them is missing.
+# Installs Debian's cargo, rustc, gcc, g++, python3 and libsqlite3-dev where one of them is missing.
 install_packages() {
     local tool missing='' as_root=()
-    for tool in cargo rustc gcc python3; do
+    for tool in cargo rustc gcc g++ python3; do
         command -v "$tool" >/dev/null || missing="$missing $tool"
     done
     [ -e /usr/include/sqlite3.h ] || missing="$missing libsqlite3-dev"
@@ -39,11 +39,11 @@ install_packages() {
     echo "test.sh: installing Debian's packages, missing are:$missing"
     [ "$(id -u)" -eq 0 ] || as_root=(sudo)
     "${as_root[@]}" apt-get update && "${as_root[@]}" env DEBIAN_FRONTEND=noninteractive \
-        apt-get install -y --no-install-recommends cargo rustc gcc libc6-dev python3 libsqlite3-dev
+        apt-get install -y --no-install-recommends cargo rustc gcc g++ libc6-dev python3 libsqlite3-dev
 }
 
 command -v rt >/dev/null || stop "rt is not on the PATH: the Rattle kit is needed"
-install_packages || stop "cargo, rustc, gcc, python3 and libsqlite3-dev are needed, and apt-get could not install them"
+install_packages || stop "cargo, rustc, gcc, g++, python3 and libsqlite3-dev are needed, and apt-get could not install them"
 log=$(mktemp) || stop "no temporary file can be made"
 beside=$(mktemp) || stop "no temporary file can be made"
 scratch=''
@@ -68,7 +68,7 @@ target/tests/release/hoofbook-tests mistakes >"$beside" 2>&1 &
 counted target/tests/release/hoofbook-tests -mistakes || stop "the tests failed"
 wait
 counted cat "$beside" || stop "the tests of mistaken engines failed"
-counted examples/test_kit.sh || stop "the C example failed"
+counted examples/test_kit.sh || stop "the example failed as C or as C++"
 counted python3 tools/test_tools.py || stop "the tests of the tools failed"
 
 [ "$failed" -eq 0 ] || stop "something failed"

@@ -1,18 +1,21 @@
-/* A kit that links the engine: horses and their trims, tied by a foreign key.
+/* A kit that links the engine: horses, their trims and their readings, tied by two foreign keys. The file is
+ * C11 and C++17.
  *
- * Table 0, horses: number. Table 1, trims: number, horse. Deleting a horse deletes its trims. Trims
- * may be entered before their horse: the key is deferred, so they must have one when the transaction
- * is committed. */
+ * Table 0, horses: number. Table 1, trims: number, horse. Table 2, readings: number, horse. Deleting a horse
+ * deletes its trims and readings. These may be entered before their horse: the keys are deferred, so each must
+ * have one when the transaction is committed. */
 #include "hoofbook.h"
 
 #include <inttypes.h>
 #include <stdio.h>
 #include <stdlib.h>
 
-enum { HEADER = 16, TABLE = 80, KEY = 16, SCHEMA = HEADER + 2 * TABLE + KEY };
+enum { HORSES, TRIMS, READINGS, TABLES };
+enum { HORSE_ROWS = 4, TRIM_ROWS = 8, READING_ROWS = 8, MOST_ORPHANS = TRIM_ROWS + READING_ROWS };
+enum { HEADER = 16, TABLE = 80, KEY = 16, KEYS = 2, JOURNAL = 8 };
+enum { KEYS_AT = HEADER + TABLES * TABLE, SCHEMA = KEYS_AT + KEYS * KEY };
 enum { INSERT = 1, DELETE = 3, BEGIN = 4, COMMIT = 9 };
 enum { DEFERRED = 1, CASCADE = 4 };
-enum { TRIMS = 8 };
 
 static void put16(uint8_t *at, unsigned value)
 {
@@ -46,16 +49,18 @@ static void put_key(uint8_t *at, unsigned child, unsigned parent)
 
 static void put_schema(uint8_t schema[SCHEMA])
 {
-    const unsigned fields[] = {2, 1, HEADER, HEADER + 2 * TABLE, 8, SCHEMA};
+    const unsigned fields[] = {TABLES, KEYS, HEADER, KEYS_AT, JOURNAL, SCHEMA};
     schema[0] = 0x46;
     schema[1] = 0x4B;
     schema[2] = 0x42;
     schema[3] = 0x31;
     for (int i = 0; i < 6; i++)
         put16(schema + 4 + 2 * i, fields[i]);
-    put_table(schema + HEADER, 4, 1);
-    put_table(schema + HEADER + TABLE, TRIMS, 2);
-    put_key(schema + HEADER + 2 * TABLE, 1, 0);
+    put_table(schema + HEADER + HORSES * TABLE, HORSE_ROWS, 1);
+    put_table(schema + HEADER + TRIMS * TABLE, TRIM_ROWS, 2);
+    put_table(schema + HEADER + READINGS * TABLE, READING_ROWS, 2);
+    put_key(schema + KEYS_AT, TRIMS, HORSES);
+    put_key(schema + KEYS_AT + KEY, READINGS, HORSES);
 }
 
 /* A kit's book: its schema, and the area that it lends to the engine. */
@@ -65,17 +70,44 @@ struct book {
     size_t words;
 };
 
-static void call(struct book *book, const char *what, const int64_t words[12])
+/* A call, and what it says. */
+struct step {
+    const char *what;
+    int64_t words[12];
+};
+
+/* Trims and a reading come before their horse 8, and not in the order of their rows. */
+static const struct step entries[] = {
+    {"begin", {BEGIN}},
+    {"insert horse 7", {INSERT, HORSES, 0, 0, 7}},
+    {"insert reading 1 of horse 8 in row 0", {INSERT, READINGS, 0, 0, 1, 8}},
+    {"insert trim 1 of horse 8 in row 2", {INSERT, TRIMS, 2, 0, 1, 8}},
+    {"insert trim 2 of horse 7 in row 1", {INSERT, TRIMS, 1, 0, 2, 7}},
+    {"insert trim 3 of horse 8 in row 0", {INSERT, TRIMS, 0, 0, 3, 8}},
+};
+
+/* Horse 8 comes, and the commit is accepted. */
+static const struct step closing[] = {
+    {"commit", {COMMIT}},
+    {"insert horse 8", {INSERT, HORSES, 1, 0, 8}},
+    {"commit", {COMMIT}},
+    {"delete horse 7 and its trims", {DELETE, HORSES, 0}},
+};
+
+static void carry_out(struct book *book, const struct step *steps, size_t count)
 {
-    const hoofbook_answer answer = hoofbook_call(book->schema, SCHEMA, book->area, book->words, words, 12);
-    printf("%s: %" PRId64 ",%" PRId64 ",%" PRId64 "\n", what, answer.code, answer.changed, answer.net);
+    for (const struct step *step = steps; step < steps + count; step++) {
+        const hoofbook_answer answer = hoofbook_call(book->schema, SCHEMA, book->area, book->words, step->words, 12);
+        printf("%s: %" PRId64 ",%" PRId64 ",%" PRId64 "\n", step->what, answer.code, answer.changed, answer.net);
+    }
 }
 
+/* By foreign key, then by row, whenever they were entered. */
 static void list_orphans(const struct book *book)
 {
-    hoofbook_orphan list[TRIMS];
+    hoofbook_orphan list[MOST_ORPHANS];
     const hoofbook_listed listed =
-        hoofbook_list_orphans(book->schema, SCHEMA, book->area, book->words, list, TRIMS);
+        hoofbook_list_orphans(book->schema, SCHEMA, book->area, book->words, list, MOST_ORPHANS);
     printf("orphans: %" PRId64 ",%" PRId64 "\n", listed.code, listed.count);
     for (int64_t i = 0; i < listed.count; i++)
         printf("  key %" PRIu64 ", row %" PRIu64 "\n", list[i].foreign_key, list[i].row);
@@ -83,24 +115,18 @@ static void list_orphans(const struct book *book)
 
 int main(void)
 {
-    struct book book = {.words = 0};
+    struct book book = {{0}, NULL, 0};
     put_schema(book.schema);
     book.words = (size_t)hoofbook_area_words(book.schema, SCHEMA);
-    book.area = calloc(book.words + 1, sizeof *book.area);
+    book.area = (int64_t *)calloc(book.words + 1, sizeof *book.area);
     if (book.area == NULL || hoofbook_make_fresh(book.schema, SCHEMA, book.area, book.words) != HOOFBOOK_DONE) {
         fprintf(stderr, "kit: no area\n");
         free(book.area);
         return 1;
     }
-    call(&book, "begin", (int64_t[12]){BEGIN});
-    call(&book, "insert horse 7", (int64_t[12]){INSERT, 0, 0, 0, 7});
-    call(&book, "insert trim 1 of horse 7", (int64_t[12]){INSERT, 1, 0, 0, 1, 7});
-    call(&book, "insert trim 2 of horse 8", (int64_t[12]){INSERT, 1, 1, 0, 2, 8});
+    carry_out(&book, entries, sizeof entries / sizeof *entries);
     list_orphans(&book);
-    call(&book, "commit", (int64_t[12]){COMMIT});
-    call(&book, "insert horse 8", (int64_t[12]){INSERT, 0, 1, 0, 8});
-    call(&book, "commit", (int64_t[12]){COMMIT});
-    call(&book, "delete horse 7 and its trims", (int64_t[12]){DELETE, 0, 0});
+    carry_out(&book, closing, sizeof closing / sizeof *closing);
     free(book.area);
     return 0;
 }

@@ -1,57 +1,62 @@
 #!/usr/bin/env python3
-"""Runs every example of docs/LESSONS.md and compares the answers with the block printed there."""
+"""Carries out every command of docs/LESSONS.md and compares the answers with its block."""
 
 import re
 import sys
 from pathlib import Path
 
 from booktext.line import Mistake
-from booktext.runner import HoofrunError, run_text
+from booktext.orphans import orphans_text
+from booktext.programs import ProgramError
+from booktext.runner import run_text
 
 ROOT = Path(__file__).resolve().parents[1]
 LESSONS = ROOT / "docs" / "LESSONS.md"
 EXAMPLES = ROOT / "examples"
 BLOCK = re.compile(
-    r"^```text\n\$ python3 tools/hooftext\.py run (\S+)\n(.*?)^```$", re.MULTILINE | re.DOTALL
+    r"^```text\n\$ python3 tools/hooftext\.py (\S+) (\S+)\n(.*?)^```$", re.MULTILINE | re.DOTALL
 )
+COMMANDS = {"run": run_text, "orphans": orphans_text}
 
 
 def printed_blocks(document):
-    """The examples of a document: file names and what is printed below them."""
+    """The blocks of a document: command, file name and what is printed below them."""
     return BLOCK.findall(document)
 
 
-def block_fault(name, printed):
+def block_fault(command, name, printed):
     """What is wrong with a printed block, or None."""
+    if command not in COMMANDS:
+        return f"expected one of {', '.join(COMMANDS)}, found {command}"
     try:
-        answered = run_text((ROOT / name).read_text(encoding="utf-8"))
+        answered = COMMANDS[command]((ROOT / name).read_text(encoding="utf-8"))
     except Mistake as mistake:
         return f"line {mistake.line_number}: {mistake}"
-    except (OSError, HoofrunError) as error:
+    except (OSError, ProgramError) as error:
         return str(error)
     if answered == printed:
         return None
-    return "hoofrun answers otherwise:\n" + answered
+    return "the engine answers otherwise:\n" + answered
 
 
-def check():
-    """Pairs of an example and its fault, or None; an example that no block shows is a fault."""
-    blocks = printed_blocks(LESSONS.read_text(encoding="utf-8"))
-    results = [(name, block_fault(name, printed)) for name, printed in blocks]
-    shown = {name for name, _ in blocks}
+def check(document):
+    """Pairs of a block and its fault, or None; an example that no block runs is a fault."""
+    blocks = printed_blocks(document)
+    results = [(f"{block[0]} {block[1]}", block_fault(*block)) for block in blocks]
+    run = {name for command, name, _ in blocks if command == "run"}
     for path in sorted(EXAMPLES.glob("*.txt")):
         name = path.relative_to(ROOT).as_posix()
-        if name not in shown:
-            results.append((name, f"not shown in {LESSONS.name}"))
+        if name not in run:
+            results.append((f"run {name}", f"not shown in {LESSONS.name}"))
     return results
 
 
 def main():
     """Prints each fault and the count; the status is 0 only where there is no fault."""
-    results = check()
-    faults = [(name, fault) for name, fault in results if fault]
-    for name, fault in faults:
-        print(f"{name}: {fault}")
+    results = check(LESSONS.read_text(encoding="utf-8"))
+    faults = [(block, fault) for block, fault in results if fault]
+    for block, fault in faults:
+        print(f"{block}: {fault}")
     print(f"{len(results) - len(faults)} passed, {len(faults)} failed")
     return 1 if faults or not results else 0
 

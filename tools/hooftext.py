@@ -1,19 +1,23 @@
 #!/usr/bin/env python3
-"""Hoof books as text: encode for hoofrun, decode, run."""
+"""Hoof books as text: encode for hoofrun, decode, run, list the orphans."""
 
 import os
 import sys
 
 from booktext.line import Mistake
+from booktext.orphans import orphans_text
+from booktext.programs import ProgramError
 from booktext.reader import read_text
-from booktext.runner import HoofrunError, run_text
+from booktext.runner import run_text
 from booktext.writer import text_of
 
 USAGE = """\
 usage: hooftext.py encode TEXT BYTES   turns a text of tables, keys and calls into hoofrun's bytes
        hooftext.py decode BYTES TEXT   turns such bytes into a text that encodes to them
        hooftext.py run TEXT            runs hoofrun on a text, prints the answers beside the calls
-- is standard input or output. hoofrun is the one that $HOOFRUN names, or target/bin/hoofrun.
+       hooftext.py orphans TEXT        asks hoofask which orphans a text leaves, prints them by name
+- is standard input or output. hoofrun is the one that $HOOFRUN names, or target/bin/hoofrun;
+hoofask is the one that $HOOFASK names, or target/hoofask.
 """
 
 
@@ -54,6 +58,8 @@ def command(arguments):
             return text_of(read_file(data)).encode("utf-8"), output
         case ["run", text]:
             return run_text(text_in(text)).encode("utf-8"), "-"
+        case ["orphans", text]:
+            return orphans_text(text_in(text)).encode("utf-8"), "-"
     return None
 
 
@@ -68,7 +74,7 @@ def main(arguments):
     except Mistake as mistake:
         print(f"{arguments[1]}:{mistake.line_number}: {mistake}", file=sys.stderr)
         return 1
-    except HoofrunError as error:
+    except ProgramError as error:
         print(f"hooftext: {error}", file=sys.stderr)
         return 1
     except BrokenPipeError:

@@ -1,23 +1,26 @@
 #!/usr/bin/env python3
-"""Tests of the text form and of the lessons; the last line is 'N passed, M failed'."""
+"""Tests of the text form, of hoofask and of the lessons; the last line is 'N passed, M failed'."""
 
 import os
 import random
 import struct
-import subprocess
 import sys
 import tempfile
 from pathlib import Path
 
 import check_lessons
 from booktext.line import Mistake
+from booktext.programs import ProgramError
 from booktext.reader import read_text
-from booktext.runner import REFUSALS, HoofrunError, run_hoofrun, run_text
+from booktext.refusals import REFUSALS
+from booktext.runner import run_hoofrun, run_text
 from booktext.writer import text_of
+from tooltests.checks import Checks, tool
+from tooltests.hoofask import check_build, check_hoofask
 from tooltests.inputs import damaged, whole_input
 from tooltests.mistakes import TABLES, all_mistakes
+from tooltests.orphans import check_orphans
 
-TOOL = Path(__file__).resolve().parent / "hooftext.py"
 RANDOM_INPUTS = 400
 
 PAPER_SCHEMA = bytes.fromhex(
@@ -78,21 +81,6 @@ bytes 0A FF
 """
 
 
-class Checks:
-    """Counts checks and tells those that fail."""
-
-    def __init__(self):
-        self.passed = self.failed = 0
-
-    def check(self, name, holds, detail=""):
-        """Counts one check."""
-        if holds:
-            self.passed += 1
-        else:
-            self.failed += 1
-            print(f"failed: {name} {detail}".rstrip())
-
-
 def returns(data):
     """Whether bytes come back from their text, and the text from its bytes."""
     text = text_of(data)
@@ -146,7 +134,7 @@ def check_runs(checks):
     answers, tally = run_hoofrun(PAPER_SCHEMA + calls)
     checks.check("answers of the paper's example", answers == PAPER_ANSWERS)
     checks.check("tally of the paper's example", tally == "accepted,6,refused,2,rows,6")
-    codes = [1, 2, 3, 4, *range(10, 22)]
+    codes = [1, 2, 3, 4, *range(10, 23)]
     checks.check("names of the refusals", sorted(REFUSALS) == codes and all(REFUSALS.values()))
     for text, code in (
         (TABLES.replace("journal 8", "journal 0"), 1),
@@ -164,17 +152,8 @@ def check_runs(checks):
     checks.check("a short last call", lines[1].endswith("     4     0     0  call malformed"), shown)
 
 
-def tool(*arguments, data=b"", **environment):
-    """Runs the command line tool: status, standard output, standard error."""
-    done = subprocess.run(
-        [sys.executable, str(TOOL), *arguments],
-        input=data, capture_output=True, check=False, env={**os.environ, **environment},
-    )
-    return done.returncode, done.stdout, done.stderr.decode()
-
-
 def check_commands(checks):
-    """The command line: files, standard streams, usage, mistakes."""
+    """The command line: files, standard streams, mistakes."""
     with tempfile.TemporaryDirectory() as folder:
         text, data, again = (os.path.join(folder, name) for name in ("a.txt", "a.bin", "b.txt"))
         Path(text).write_text(EVERY_FIELD, encoding="utf-8")
@@ -183,7 +162,8 @@ def check_commands(checks):
         checks.check("decode", tool("decode", data, again) == (0, b"", ""))
         checks.check("decoded file", read_text(Path(again).read_text()).to_bytes() == EVERY_FIELD_BYTES)
         Path(text).write_text(TABLES + "begin\ncomit\n", encoding="utf-8")
-        for arguments in (("encode", text, os.path.join(folder, "c.bin")), ("run", text)):
+        encode = ("encode", text, os.path.join(folder, "c.bin"))
+        for arguments in (encode, ("run", text), ("orphans", text)):
             status, out, err = tool(*arguments)
             told = err.startswith(f"{text}:10: expected ") and err.endswith("found 'comit'\n")
             checks.check(f"{arguments[0]} of a mistake", (status, out) == (1, b"") and told, err)
@@ -192,27 +172,56 @@ def check_commands(checks):
     checks.check("byte order mark", tool("encode", "-", "-", data=b"\xef\xbb\xbfbytes 01")[1] == b"\x01")
     told = tool("encode", "-", "-", data=b"\n\xff")[2]
     checks.check("no text", told == "-:2: expected text, found the byte FF\n", told)
-    checks.check("no such file", tool("run", "/nowhere/a.txt")[0] == 1)
-    status, out, err = tool("run", "-", data=TABLES.encode(), HOOFRUN="/nowhere/hoofrun")
-    checks.check("no hoofrun", (status, out) == (1, b"") and "cannot run hoofrun" in err, err)
-    status, out, err = tool("run", "-", data=TABLES.encode(), HOOFRUN="/bin/true")
-    checks.check("another program", (status, out) == (1, b"") and "does not print" in err, err)
-    for arguments in ((), ("help",), ("encode", "a"), ("decode", "a", "b", "c"), ("run",)):
+
+
+def check_command_faults(checks):
+    """The command line: no file, no program, another program, usage."""
+    for command, program in (("run", "hoofrun"), ("orphans", "hoofask")):
+        found = tool(command, "/nowhere/a.txt")
+        told = "hooftext: /nowhere/a.txt: No such file or directory\n"
+        checks.check(f"{command} of no file", found == (1, b"", told), found)
+        for path, told in (
+            (f"/nowhere/{program}", f"cannot run {program}"),
+            ("/bin/true", f"/bin/true does not print the lines of {program}"),
+        ):
+            status, out, err = tool(command, "-", data=TABLES.encode(), **{program.upper(): path})
+            checks.check(f"{command} by {path}", (status, out) == (1, b"") and told in err, err)
+    for arguments in (
+        (), ("help",), ("encode", "a"), ("decode", "a", "b", "c"), ("run",), ("orphans",),
+        ("orphans", "a", "b"),
+    ):
         status, out, err = tool(*arguments)
         used = (status, out) == (2, b"") and err.startswith("usage: hooftext.py encode TEXT BYTES")
         checks.check(f"usage after {arguments}", used, err)
 
 
+def check_blocks(checks):
+    """The blocks of the lessons, and faults that the check of lessons must find."""
+    lessons = check_lessons.LESSONS.read_text(encoding="utf-8")
+    for block, fault in check_lessons.check(lessons):
+        checks.check(f"lesson {block}", not fault, fault)
+    for command in ("run", "orphans"):
+        fault = check_lessons.block_fault(command, "examples/paper.txt", "otherwise\n")
+        checks.check(f"another answer to {command}", "answers otherwise" in str(fault), fault)
+    fault = check_lessons.block_fault("encode", "examples/paper.txt", "")
+    checks.check("a block of another command", "found encode" in str(fault), fault)
+    examples = {f"run examples/{path.name}" for path in check_lessons.EXAMPLES.glob("*.txt")}
+    not_run = lessons.replace("hooftext.py run", "hooftext.py orphans")
+    found = {block for block, fault in check_lessons.check(not_run) if "not shown" in str(fault)}
+    checks.check("examples that are not run", examples and found == examples, found)
+
+
 def main():
     """Runs every check; the status is 0 only where none failed."""
     checks = Checks()
-    for run in (check_encoding, check_round_trips, check_mistakes, check_runs, check_commands):
+    for run in (
+        check_build, check_encoding, check_round_trips, check_mistakes, check_runs, check_hoofask,
+        check_orphans, check_commands, check_command_faults, check_blocks,
+    ):
         try:
             run(checks)
-        except HoofrunError as error:
+        except (OSError, ProgramError) as error:
             checks.check(run.__name__, False, error)
-    for name, fault in check_lessons.check():
-        checks.check(f"lesson {name}", not fault, fault)
     print(f"{checks.passed} passed, {checks.failed} failed")
     return 1 if checks.failed else 0
 

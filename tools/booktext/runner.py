@@ -1,67 +1,30 @@
 """Runs hoofrun on a text and lays its answers beside the calls."""
 
-import os
 import re
-import subprocess
-from pathlib import Path
 
+from .programs import HOOFRUN, ProgramError, numbers_in
 from .reader import read_text
+from .refusals import refusal_name
 
-BUILT = Path(__file__).resolve().parents[2] / "target" / "bin" / "hoofrun"
 OUTPUT = re.compile(
     r"code,changed,net\n"
     r"(?P<answers>([0-9]+,[0-9]+,-?[0-9]+\n)*)"
     r"(?P<tally>accepted,[0-9]+,refused,[0-9]+,rows,[0-9]+)\n"
 )
 
-REFUSALS = {
-    1: "schema malformed",
-    2: "parent columns are no unique key",
-    3: "area over 8,192 words",
-    4: "call malformed",
-    10: "area damaged",
-    11: "insert on a live row, or change of a vacant one",
-    12: "no such level, or begin inside a transaction",
-    13: "nine levels open",
-    14: "actions too deep",
-    15: "journal full",
-    16: "NOT NULL",
-    17: "not unique",
-    18: "RESTRICT",
-    19: "kept orphans out of range",
-    20: "orphans left",
-    21: "commit with orphans",
-}
 SCHEMA_REFUSALS = (1, 2, 3)
-
-
-class HoofrunError(Exception):
-    """hoofrun cannot be run, or does not print what it should."""
-
-
-def hoofrun_path():
-    """The program: $HOOFRUN, or the one that the repository builds."""
-    return os.environ.get("HOOFRUN") or str(BUILT)
 
 
 def run_hoofrun(data):
     """Runs hoofrun on bytes; gives its answers, triples of numbers, and its last line."""
-    path = hoofrun_path()
-    try:
-        done = subprocess.run([path], input=data, capture_output=True, check=True)
-    except (OSError, subprocess.CalledProcessError) as error:
-        raise HoofrunError(f"cannot run hoofrun: {error}; set HOOFRUN to its path") from error
-    printed = OUTPUT.fullmatch(done.stdout.decode("ascii", "replace"))
-    if not printed:
-        raise HoofrunError(f"{path} does not print the lines of hoofrun")
-    answers = [tuple(map(int, answer.split(","))) for answer in printed["answers"].splitlines()]
-    return answers, printed["tally"]
+    printed = HOOFRUN.run(data, OUTPUT)
+    return numbers_in(printed["answers"]), printed["tally"]
 
 
 def answer_text(answer):
     """An answer in columns, with its name if it is a refusal."""
     code, changed, net = answer
-    name = f"  {REFUSALS.get(code, 'unknown refusal')}" if code else ""
+    name = f"  {refusal_name(code)}" if code else ""
     return f"{code:6}{changed:6}{net:6}{name}"
 
 
@@ -83,7 +46,7 @@ def laid_out(text, book, answers):
         below_schema.append(f"{'the schema':{width}}" + answer_text(answers[0]))
         answered = []
     elif len(answers) != len(answered):
-        raise HoofrunError(f"hoofrun gave {len(answers)} answers to {len(answered)} calls")
+        raise ProgramError(f"hoofrun gave {len(answers)} answers to {len(answered)} calls")
     for number, answer in zip(answered, answers):
         lines[number - 1] = f"{lines[number - 1]:{width}}" + answer_text(answer)
     schema_end = book.schema_line if book.schema else len(lines)

@@ -40,11 +40,18 @@ def table_lines(table):
     return lines
 
 
+def key_ends(schema, key):
+    """CHILD.COLUMN -> PARENT.COLUMN of a foreign key."""
+    child, parent = schema.tables[key.child], schema.tables[key.parent]
+    return (
+        f"{child.name}.{column_list(child, key.child_columns)}"
+        f" -> {parent.name}.{column_list(parent, key.parent_columns)}"
+    )
+
+
 def key_line(schema, key):
     """The line of a foreign key."""
-    child, parent = schema.tables[key.child], schema.tables[key.parent]
-    line = f"key {child.name}.{column_list(child, key.child_columns)}"
-    line += f" -> {parent.name}.{column_list(parent, key.parent_columns)}"
+    line = f"key {key_ends(schema, key)}"
     if key.on_delete:
         line += f" on delete {ACTIONS[key.on_delete]}"
     if key.on_update:
