@@ -10,7 +10,7 @@ from booktext.calls import CALL, LEVEL_KINDS, PLAIN_KINDS, ROW_KINDS, call_words
 from booktext.reader import read_text
 from booktext.schema import schema_bytes
 
-MOST_AREA_WORDS = 8192
+MOST_AREA_WORDS = 8192  # of hoofrun
 BEGIN, SAVEPOINT = PLAIN_KINDS["begin"], PLAIN_KINDS["savepoint"]
 ROLLBACK, COMMIT = PLAIN_KINDS["rollback"], PLAIN_KINDS["commit"]
 RELEASE, ROLLBACK_TO = LEVEL_KINDS["release"], LEVEL_KINDS["rollback to"]
@@ -20,10 +20,10 @@ INSERT, UPDATE, DELETE = ROW_KINDS.values()
 class Calls:
     """A schema and the calls made so far."""
 
-    def __init__(self, text):
+    def __init__(self, text, most_area_words=MOST_AREA_WORDS):
         self.schema = read_text(text).schema
         words = sum(table.rows * (len(table.columns) + 1) for table in self.schema.tables)
-        assert 333 + words + 10 * self.schema.journal <= MOST_AREA_WORDS, "area too long"
+        assert 333 + words + 10 * self.schema.journal <= most_area_words, "area too long"
         self.calls = []
 
     def __len__(self):

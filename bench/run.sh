@@ -1,20 +1,27 @@
 #!/usr/bin/env bash
-# Measures hoofrun against SQLite in memory, on the same bytes.
+# Measures hoofrun and the orphan list against SQLite in memory, on the same bytes.
 # usage: bench/run.sh [CALLS]      calls of each input, 10,000 if not given
-# hoofrun is the one that $HOOFRUN names, or target/bin/hoofrun.
+#        bench/run.sh lists        the orphan lists alone
+# hoofrun is the one that $HOOFRUN names, or target/bin/hoofrun; the library that makes the orphan list
+# is the one that $CAPI names, or target/staticlib/libcapi.a.
 set -euo pipefail
 cd "$(dirname "$0")/.."
 
 calls=${1:-10000}
 hoofrun=${HOOFRUN:-target/bin/hoofrun}
+capi=${CAPI:-target/staticlib/libcapi.a}
 folder=target/bench
 
-if [ $# -gt 1 ] || ! [[ $calls =~ ^[1-9][0-9]*$ ]]; then
-    echo "usage: bench/run.sh [CALLS]" >&2
+if [ $# -gt 1 ] || ! [[ $calls =~ ^([1-9][0-9]*|lists)$ ]]; then
+    echo "usage: bench/run.sh [CALLS | lists]" >&2
     exit 2
 fi
-if ! [ -x "$hoofrun" ]; then
+if [ "$calls" != lists ] && ! [ -x "$hoofrun" ]; then
     echo "bench/run.sh: $hoofrun is not there: 'rt check hoofrun' builds it" >&2
+    exit 1
+fi
+if ! [ -e "$capi" ]; then
+    echo "bench/run.sh: $capi is not there: 'rt staticlib capi' builds it" >&2
     exit 1
 fi
 if ! command -v gcc >/dev/null || ! [ -e /usr/include/sqlite3.h ]; then
@@ -27,5 +34,11 @@ if ! command -v gcc >/dev/null || ! [ -e /usr/include/sqlite3.h ]; then
 fi
 
 mkdir -p "$folder"
-gcc -std=c11 -O2 -Wall -Wextra -o "$folder/sqlite_side" bench/sqlite_side.c -lsqlite3
-exec python3 bench/measure.py "$hoofrun" "$folder/sqlite_side" "$folder" "$calls"
+compile=(gcc -std=c11 -O2 -Wall -Wextra -Iinclude)
+"${compile[@]}" -o "$folder/sqlite_side" bench/sqlite_side.c -lsqlite3
+"${compile[@]}" -o "$folder/engine_side" bench/engine_side.c "$capi"
+if [ "$calls" != lists ]; then
+    python3 bench/measure.py "$hoofrun" "$folder/sqlite_side" "$folder" "$calls"
+    echo
+fi
+exec python3 bench/lists.py "$folder/engine_side" "$folder/sqlite_side" "$folder"

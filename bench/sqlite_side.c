@@ -6,17 +6,20 @@
 // delete changed, those of its actions included. The seconds that the calls took, and SQLite's version,
 // go to standard error: reading the input, making the tables, preparing the statements and printing are
 // not in those seconds.
+//
+//   sqlite_side LISTS <input >orphans
+//
+// The calls are carried out, then the orphans are listed LISTS times by SQLite's own check. The first
+// line is the seconds of the fastest list, in which nothing else is; then comes a line 'KEY,ROW' for each
+// orphan. All keys must have the same child table.
+//
 // The schema is taken for valid.
-#define _POSIX_C_SOURCE 200809L
+#include "side.h"
+
 #include <sqlite3.h>
 #include <stdarg.h>
-#include <stdint.h>
-#include <stdio.h>
-#include <stdlib.h>
-#include <string.h>
-#include <time.h>
 
-enum { MOST_TABLES = 16, MOST_LEVELS = 9, CALL_BYTES = 96, HEADER_BYTES = 16, TABLE_BYTES = 80, KEY_BYTES = 16 };
+enum { MOST_TABLES = 16, MOST_LEVELS = 9, TABLE_BYTES = 80, KEY_BYTES = 16 };
 enum { INSERT = 1, UPDATE, DELETE, BEGIN, SAVEPOINT, RELEASE, ROLLBACK_TO, ROLLBACK, COMMIT };
 
 // A table or foreign key record as its bytes, read where it is needed.
@@ -27,11 +30,10 @@ static int table_count, key_count, open_levels;
 static record table_records, key_records;
 static sqlite3_stmt *row_statements[DELETE + 1][MOST_TABLES];
 static sqlite3_stmt *level_statements[ROLLBACK_TO + 1][MOST_LEVELS + 1];
-static sqlite3_stmt *begin_statement, *rollback_statement, *commit_statement;
+static sqlite3_stmt *begin_statement, *rollback_statement, *commit_statement, *check_statement;
 
 static record table_record(int t) { return table_records + TABLE_BYTES * t; }
 static record key_record(int k) { return key_records + KEY_BYTES * k; }
-static int field16(const uint8_t *bytes) { return bytes[0] | bytes[1] << 8; }
 static int row_count(int t) { return field16(table_record(t)); }
 static int column_count(int t) { return table_record(t)[2]; }
 
@@ -260,42 +262,51 @@ static int run_level_call(const int64_t *call) {
     return 1;
 }
 
-static double seconds_now(void) {
-    struct timespec now;
-    clock_gettime(CLOCK_MONOTONIC, &now);
-    return now.tv_sec + now.tv_nsec * 1e-9;
+static int accepts(const uint8_t *bytes) {
+    int64_t call[12];
+    memcpy(call, bytes, CALL_BYTES);
+    return well_formed(call) && (call[0] <= DELETE ? run_row_call(call) : run_level_call(call));
 }
 
-static uint8_t *read_input(size_t *length) {
-    size_t room = 1 << 20, got;
-    uint8_t *bytes = malloc(room);
-    for (*length = 0; bytes && (got = fread(bytes + *length, 1, room - *length, stdin)) > 0;)
-        if ((*length += got) == room) bytes = realloc(bytes, room *= 2);
-    if (!bytes) stop("no memory");
-    return bytes;
-}
-
-int main(void) {
-    size_t length;
-    uint8_t *input = read_input(&length);
-    if (length < HEADER_BYTES || length < (size_t)field16(input + 14)) stop("short input");
-    open_book(input);
-    const uint8_t *calls = input + field16(input + 14);
-    size_t count = (length - field16(input + 14)) / CALL_BYTES;
-    int *changed = malloc((count + 1) * sizeof *changed); // -1 where refused
-    if (!changed) stop("no memory");
-    double start = seconds_now();
-    for (size_t i = 0; i < count; i++) {
-        int64_t call[12];
-        memcpy(call, calls + CALL_BYTES * i, CALL_BYTES);
-        int before = sqlite3_total_changes(db);
-        int accepted = well_formed(call) && (call[0] <= DELETE ? run_row_call(call) : run_level_call(call));
-        changed[i] = accepted ? sqlite3_total_changes(db) - before : -1;
-    }
-    double seconds = seconds_now() - start;
+static void print_answers(const int *changed, size_t count) {
     for (size_t i = 0; i < count; i++)
         if (changed[i] < 0) puts("refused,0");
         else printf("accepted,%d\n", changed[i]);
+}
+
+static void answer_calls(input book) {
+    int *changed = malloc((book.call_count + 1) * sizeof *changed); // -1 where refused
+    if (!changed) stop("no memory");
+    double start = seconds_now();
+    for (size_t i = 0; i < book.call_count; i++) {
+        int before = sqlite3_total_changes(db);
+        changed[i] = accepts(book.calls + CALL_BYTES * i) ? sqlite3_total_changes(db) - before : -1;
+    }
+    double seconds = seconds_now() - start;
+    print_answers(changed, book.call_count);
     fprintf(stderr, "%.9f %s\n", seconds, sqlite3_libversion());
+}
+
+// SQLite counts a table's keys from the one declared last, which is the first of the schema.
+static size_t list_orphans(void) {
+    size_t count = 0;
+    for (; sqlite3_step(check_statement) == SQLITE_ROW; count++) {
+        orphans[count].row = sqlite3_column_int64(check_statement, 1);
+        orphans[count].foreign_key = sqlite3_column_int64(check_statement, 3);
+    }
+    if (sqlite3_reset(check_statement) != SQLITE_OK) stop("check");
+    return count;
+}
+
+int main(int argc, char **argv) {
+    input book = read_input();
+    open_book(book.schema);
+    if (argc == 1) {
+        answer_calls(book);
+    } else {
+        carry_out_calls(book);
+        check_statement = prepare_plain("PRAGMA foreign_key_check", 0);
+        print_list(atoi(argv[1]));
+    }
     return 0;
 }

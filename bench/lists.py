@@ -1,0 +1,88 @@
+"""Measures the engine's orphan list and SQLite's own check on the same bytes and prints a table."""
+
+import math
+import subprocess
+import sys
+from itertools import zip_longest
+from pathlib import Path
+
+from growth import HORSES, TRIMS
+from inputs import BEGIN, INSERT, Calls
+from loads import trims_text
+
+RUNS = 3
+LISTS = 30  # of each run
+BOOKS = ((8, 128), (32, 1024))  # foreign keys; rows of each table
+
+# Whether the trim of a row is an orphan.
+LOADS = {
+    "no orphan": lambda row, rows: False,
+    "the last row": lambda row, rows: row == rows - 1,
+    "every other row": lambda row, rows: row % 2 == 1,
+    "every row": lambda row, rows: True,
+}
+
+
+def filled(keys, rows, is_orphan):
+    """Two full tables in an open transaction, the trim's horse tied by so many equal keys."""
+    text = trims_text(rows, rows, 2 * rows, keys=keys, deferred="deferred")
+    calls = Calls(text, most_area_words=math.inf)
+    calls.add(BEGIN)
+    for row in range(rows):
+        calls.add(INSERT, HORSES, row, [row])
+    for row in range(rows):
+        calls.add(INSERT, TRIMS, row, [row, row + rows if is_orphan(row, rows) else row])
+    return calls.to_bytes()
+
+
+def listed(program, path):
+    """The seconds of the fastest list and the orphans, pairs of foreign key and row."""
+    with open(path, "rb") as source:
+        done = subprocess.run(
+            [program, str(LISTS)], stdin=source, stdout=subprocess.PIPE, check=True, text=True
+        )
+    seconds, *lines = done.stdout.splitlines()
+    return float(seconds), [tuple(map(int, line.split(","))) for line in lines]
+
+
+def compare(name, ours, theirs):
+    """Both must list the same orphans, and the engine by foreign key number, then by rising row."""
+    for our, their in zip_longest(sorted(ours), sorted(theirs)):
+        if our != their:
+            sys.exit(f"lists: {name}: sorted, the lists differ at {our} and {their}")
+    if ours != sorted(ours):
+        sys.exit(f"lists: {name}: the engine's list is not in its order")
+
+
+def best(programs, name, path):
+    """The best seconds of both, one after the other on the same bytes, and the number of orphans."""
+    times = []
+    for _ in range(RUNS):
+        (ours, our_list), (theirs, their_list) = (listed(program, path) for program in programs)
+        compare(name, our_list, their_list)
+        times.append((ours, theirs))
+    return *map(min, zip(*times)), len(our_list)
+
+
+def print_lists(programs, folder):
+    """One line for each book and load; its input stays in the folder as list1.bin and so on."""
+    print(f"{'milliseconds a list':40}{'orphans':>9}{'engine':>11}{'SQLite':>11}{'ratio':>8}")
+    books = [(keys, rows, load) for keys, rows in BOOKS for load in LOADS]
+    for number, (keys, rows, load) in enumerate(books, 1):
+        path = Path(folder) / f"list{number}.bin"
+        path.write_bytes(filled(keys, rows, LOADS[load]))
+        name = f"{keys} keys, {rows:,} rows: {load}"
+        ours, theirs, count = best(programs, name, path)
+        cells = f"{count:9,}{ours * 1e3:11.3f}{theirs * 1e3:11.3f}{theirs / ours:8.2f}"
+        print(f"{name:40}{cells}", flush=True)
+
+
+def main():
+    """lists.py ENGINE_SIDE SQLITE_SIDE FOLDER"""
+    if len(sys.argv) != 4:
+        sys.exit("usage: lists.py ENGINE_SIDE SQLITE_SIDE FOLDER")
+    print_lists(sys.argv[1:3], sys.argv[3])
+
+
+if __name__ == "__main__":
+    main()
