@@ -21,7 +21,7 @@ use Rattle.bridge.specs.Ready.{Ready}
 use Rattle.orphans.specs.declared.KeyRows.{KeyRows}
 use Rattle.orphans.specs.KeyRows.{KeyRowsOf}
 use Rattle.orphans.proofs.OrphanLaws.{childRows, childAt, isAlone, child-is, children-many}
-use Rattle.orphan_scan.specs.Scan.{orphansPast, orphansLeft, orphansAt, Starts}
+use Rattle.orphan_scan.specs.Scan.{orphansFromKey, orphansLeft, orphansAt, Starts}
 use Rattle.orphan_scan.specs.declared.Cursor.{Cursor}
 
 -- ---- the orphans of one foreign key, from row j on
@@ -45,18 +45,18 @@ module _ (p : Row → Bool) (k : ℕ) (xs : List Row) (j : ℕ) where
     rows-miss e = rows-turn ∙ rw e refl
 
 module _ (b : List ℕ) (a : List ℤ) where
-  past-key : (k : ℕ) → k < length (schemaOf b .keys) → orphansPast b a k ≡ orphansLeft b a k 0
-  unfolding orphansPast orphansLeft orphansFrom
-  past-key k l = ap (orphansFrom (workOf (schemaOf b) a .tabs) k) (drop-cons (schemaOf b .keys) k noKey l)
+  from-key : (k : ℕ) → k < length (schemaOf b .keys) → orphansFromKey b a k ≡ orphansLeft b a k 0
+  unfolding orphansFromKey orphansLeft orphansFrom
+  from-key k l = ap (orphansFrom (workOf (schemaOf b) a .tabs) k) (drop-cons (schemaOf b .keys) k noKey l)
 
-  past-none : (k : ℕ) → length (schemaOf b .keys) ≤ k → orphansPast b a k ≡ []
-  unfolding orphansPast orphansFrom
-  past-none k l = ap (orphansFrom (workOf (schemaOf b) a .tabs) k) (drop-of-length-le (schemaOf b .keys) l)
+  from-none : (k : ℕ) → length (schemaOf b .keys) ≤ k → orphansFromKey b a k ≡ []
+  unfolding orphansFromKey orphansFrom
+  from-none k l = ap (orphansFrom (workOf (schemaOf b) a .tabs) k) (drop-of-length-le (schemaOf b .keys) l)
 
   -- all of them
   pub all-left : {x : Cursor} → Starts b x → 0 < length (schemaOf b .keys) → orphanList (schemaOf b) (workOf (schemaOf b) a .tabs) ≡ orphansAt b a x
-  unfolding orphanList orphansPast
-  all-left {x} h l = past-key 0 l ∙ rw (h .first-key, h .first-row) refl
+  unfolding orphanList orphansFromKey
+  all-left {x} h l = from-key 0 l ∙ rw (h .first-key, h .first-row) refl
 
   module _ (h : Ready b a) {k : ℕ} {key : KeyRows} (e : KeyRowsOf b k key) (j : ℕ) where
     -- row j is an orphan, or it is none
@@ -66,17 +66,17 @@ module _ (b : List ℕ) (a : List ℤ) where
 
       pub left-hit : z ≡ true → orphansLeft b a k j ≡ record { key = k; row = j } ∷ orphansLeft b a k (j + 1)
       unfolding orphansLeft
-      left-hit t = ap (λ (os : List Orphan). os ++ orphansPast b a (suc k)) (rows-hit (isAlone b a k) k (childRows b a k) j in-rows (child-is b a k j i ∙ t))
+      left-hit t = ap (λ (os : List Orphan). os ++ orphansFromKey b a (suc k)) (rows-hit (isAlone b a k) k (childRows b a k) j in-rows (child-is b a k j i ∙ t))
 
       pub left-miss : z ≡ false → orphansLeft b a k j ≡ orphansLeft b a k (j + 1)
       unfolding orphansLeft
-      left-miss t = ap (λ (os : List Orphan). os ++ orphansPast b a (suc k)) (rows-miss (isAlone b a k) k (childRows b a k) j in-rows (child-is b a k j i ∙ t))
+      left-miss t = ap (λ (os : List Orphan). os ++ orphansFromKey b a (suc k)) (rows-miss (isAlone b a k) k (childRows b a k) j in-rows (child-is b a k j i ∙ t))
 
     -- no child row is left
     module _ (l : key .children .count ≤ j) where
-      left-none : orphansLeft b a k j ≡ orphansPast b a (suc k)
+      left-none : orphansLeft b a k j ≡ orphansFromKey b a (suc k)
       unfolding orphansLeft
-      left-none = ap (λ (os : List Orphan). os ++ orphansPast b a (suc k)) (rows-none (isAlone b a k) k (childRows b a k) j (omega (arith, l, children-many b a k h key e)))
+      left-none = ap (λ (os : List Orphan). os ++ orphansFromKey b a (suc k)) (rows-none (isAlone b a k) k (childRows b a k) j (omega (arith, l, children-many b a k h key e)))
 
       -- where an orphan is left, there is another foreign key
       pub key-more : {os : List Orphan} → os ≡ orphansLeft b a k j → 0 < length os → k + 1 < length (schemaOf b .keys)
@@ -84,7 +84,7 @@ module _ (b : List ℕ) (a : List ℤ) where
         where
           go : (t : Bool) → ltb (suc k) (length (schemaOf b .keys)) ≡ t → k + 1 < length (schemaOf b .keys)
           go true t = omega (arith, ltb-true (suc k) (length (schemaOf b .keys)) t)
-          go false t = absurd (omega (arith, some, ap length (f ∙ left-none ∙ past-none (suc k) (ltb-false (suc k) (length (schemaOf b .keys)) t))))
+          go false t = absurd (omega (arith, some, ap length (f ∙ left-none ∙ from-none (suc k) (ltb-false (suc k) (length (schemaOf b .keys)) t))))
 
       pub left-next : k + 1 < length (schemaOf b .keys) → orphansLeft b a k j ≡ orphansLeft b a (k + 1) 0
-      left-next m = left-none ∙ ap (orphansPast b a) (sym (add-one k)) ∙ past-key (k + 1) m
+      left-next m = left-none ∙ ap (orphansFromKey b a) (sym (add-one k)) ∙ from-key (k + 1) m

@@ -18,14 +18,14 @@ use Rattle.orphan_scan.specs.declared.Cursor.{Cursor}
 
 module _ (b : List ℕ) (a : List ℤ) where
   -- the orphans from foreign key k on
-  unfoldable pub orphansPast : ℕ → List Orphan
-  orphansPast k = orphansFrom (workOf (schemaOf b) a .tabs) k (drop k (schemaOf b .keys))
+  unfoldable pub orphansFromKey : ℕ → List Orphan
+  orphansFromKey k = orphansFrom (workOf (schemaOf b) a .tabs) k (drop k (schemaOf b .keys))
 
   -- the orphans from row r of foreign key k on
   unfoldable pub orphansLeft : ℕ → ℕ → List Orphan
   orphansLeft k r =
       orphanRows (orphan (keyOf (schemaOf b) k) (getD (workOf (schemaOf b) a .tabs) (keyOf (schemaOf b) k .parent) [])) k r (drop r (getD (workOf (schemaOf b) a .tabs) (keyOf (schemaOf b) k .child) []))
-      ++ orphansPast (suc k)
+      ++ orphansFromKey (suc k)
 
   -- the orphans that a cursor stands before
   abbrev pub orphansAt : Cursor → List Orphan

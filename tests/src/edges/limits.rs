@@ -1,7 +1,7 @@
 //! Refusals from the state, and transactions.
 
-use super::build::*;
 use super::*;
+use crate::schema_bytes::build::*;
 
 pub fn cases() -> Vec<Case> {
     vec![

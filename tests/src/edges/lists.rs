@@ -1,7 +1,7 @@
 //! The orphan list: by foreign key number, then by rising child row.
 
-use super::build::*;
 use super::*;
+use crate::schema_bytes::build::*;
 use crate::schema_bytes::records::Key;
 
 pub fn cases() -> Vec<Case> {

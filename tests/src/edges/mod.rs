@@ -1,7 +1,6 @@
 //! The edge cases of the paper as a text: each case with its schema and its calls in words, and the
 //! answers of an engine.
 
-mod build;
 mod limits;
 mod lists;
 mod paper;

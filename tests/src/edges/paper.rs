@@ -1,7 +1,7 @@
 //! The cases that the paper lists under "Trims of the edge".
 
-use super::build::*;
 use super::*;
+use crate::schema_bytes::build::*;
 use crate::schema_bytes::harmless;
 
 pub fn cases() -> Vec<Case> {

@@ -1,7 +1,7 @@
 //! What students write, and worthless engines: cases in which those would show.
 
-use super::build::*;
 use super::*;
+use crate::schema_bytes::build::*;
 
 pub fn cases() -> Vec<Case> {
     vec![

@@ -3,8 +3,9 @@
 
 use super::grounds::Ground;
 use crate::random::Random;
+use crate::schema_bytes::build;
 use crate::schema_bytes::records::{Key, Schema as Records, Table};
-use crate::schema_bytes::valid::{four, key, parents};
+use crate::schema_bytes::valid::{key, parents};
 
 /// Up to four tables. As many values as a table can have rows: some rows have parents, some none.
 pub fn many_keys(r: &mut Random) -> Ground {
@@ -27,15 +28,9 @@ fn table(r: &mut Random, most_rows: usize) -> Table {
     } else {
         r.between(1, most_rows)
     };
-    Table {
-        rows: rows as u16,
-        columns: r.between(2, 4) as u8,
-        not_null: 0,
-        unique: r.pick(&[[1, 0, 0, 0], [1, 3, 0, 0], [3, 1, 0, 0]]),
-        default_null: 0,
-        zeros: [0; 7],
-        defaults: [0; 8],
-    }
+    let columns = r.between(2, 4) as u8;
+    let unique: &[u8] = r.pick(&[&[1], &[1, 3], &[3, 1]]);
+    build::table(rows as u16, columns, unique)
 }
 
 /// Foreign keys between any tables, some of them declared again under another number.
@@ -59,25 +54,7 @@ fn keys(r: &mut Random, tables: &[Table]) -> Vec<Key> {
 
 /// One table of 1,024 rows and 32 equal keys: as many orphans as there can be.
 pub fn largest() -> Ground {
-    let table = Table {
-        rows: 1024,
-        columns: 2,
-        not_null: 0,
-        unique: [1, 0, 0, 0],
-        default_null: 0,
-        zeros: [0; 7],
-        defaults: [0; 8],
-    };
-    let key = Key {
-        child: 0,
-        parent: 0,
-        deferred: 1,
-        on_delete: 0,
-        on_update: 0,
-        count: 1,
-        child_columns: four(&[1]),
-        parent_columns: four(&[0]),
-        zeros: [0; 2],
-    };
-    Ground::new(Records::new(1, vec![table], vec![key; 32]), Vec::new())
+    let one = build::to_itself(1024, 1, build::NO_ACTION);
+    let key = build::deferred(one.keys[0].clone());
+    Ground::new(Records::new(1, one.tables, vec![key; 32]), Vec::new())
 }

@@ -5,6 +5,7 @@ mod breaks_header;
 mod breaks_keys;
 mod breaks_parents;
 mod breaks_tables;
+pub mod build;
 mod changed;
 pub mod harmless;
 pub mod mistakes;

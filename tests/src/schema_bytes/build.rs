@@ -1,7 +1,7 @@
-//! Schemas of the edge cases, in few words.
+//! Schemas in few words.
 
-use crate::schema_bytes::records::{Key, Schema, Table};
-use crate::schema_bytes::valid::four;
+use super::records::{Key, Schema, Table};
+use super::valid::four;
 
 pub const NO_ACTION: u8 = 0;
 pub const RESTRICT: u8 = 1;
