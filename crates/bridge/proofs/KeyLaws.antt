@@ -16,7 +16,7 @@ use Rattle.rules.specs.Keys.{sameCell, sameKey, fullKey, mapsTo, due, serves, o
 
 -- ---- either way round
 
-same-sym : (a b : ℤ) → sameValue a b ≡ sameValue b a
+pub same-sym : (a b : ℤ) → sameValue a b ≡ sameValue b a
 same-sym a b =
     both-ways (sameValue a b) (sameValue b a) (λ h. rw (same-eq a b h) (same-refl b)) (λ h. rw (same-eq b a h) (same-refl a))
 

@@ -5,6 +5,7 @@ pub mod Books
 pub mod Counts
 pub mod CountBounds
 pub mod Undo
+pub mod TurnLaws
 pub mod Views
 pub mod Offsets
 pub mod JournalWords

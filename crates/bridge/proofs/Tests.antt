@@ -1,7 +1,7 @@
 -- What a test that passes says.
 -- Assumes nothing.
 use mathlib.Core.Path.{_≡_, refl}
-use mathlib.Core.Bool.{Bool, true, false, not, _&&_, false≢true}
+use mathlib.Core.Bool.{Bool, true, false, not, _&&_, _||_, false≢true}
 use mathlib.Core.List.{List, [], _∷_, _++_}
 use Prim.Native.Nat.{ℕ, zero, suc, _+_, _≤_}
 use native.Mathlib.Omega.{arith}
@@ -16,6 +16,9 @@ and-both p q = rw (p, q)
 -- tests that agree one by one
 pub and-same : {a b p q : Bool} → a ≡ p → b ≡ q → a && b ≡ p && q
 and-same e f = rw (e, f) refl
+
+pub or-same : {a b p q : Bool} → a ≡ p → b ≡ q → a || b ≡ p || q
+or-same e f = rw (e, f) refl
 
 pub holds : {a : Bool} → a ≡ true → T a
 holds h = rw h tt

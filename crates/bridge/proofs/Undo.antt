@@ -13,7 +13,8 @@ use Rattle.bridge.proofs.Shapes.{Shaped, widths, widths-put, length-ove
 use Rattle.bridge.proofs.Tests.{all-cons, all-append, all-head, all-tail, below}
 use Rattle.rules.specs.Book.{Entry, Work, entry, write, undoOne, undoAll, undo, undoTo, zeroRecords}
 use Rattle.rules.specs.Calls.{inTable}
-use Rattle.rules.specs.Change.{Result, go, stop, then, given, Change, taken, rowTurn, children, keyTurn, actions, admits, admitted, change}
+use Rattle.rules.specs.Change.{Result, go, stop, then, given, inTurn, Change, taken, rowTurn, children, keyTurn, actions, admits, admitted, change}
+use Rattle.rules.specs.Found.{foundTurn, rowsFound}
 use Rattle.rules.specs.Lists.{𝟘, padded, upFrom}
 use Rattle.rules.specs.Refusals.{failing, number}
 use Rattle.rules.specs.declared.Verdict.{Verdict}
@@ -176,6 +177,12 @@ idle w = went (nothing w)
 halted : {s : Schema} (c : Refusal) (w : Work) → ofChange c ≡ true → Fine s w (stop c w)
 halted c w h = stopped h (nothing w)
 
+-- rows in turn
+fine-in-turn : {s : Schema} (turn : ℕ → Work → Result) (p : ℕ → Bool) → ((i : ℕ) → p i ≡ true → (w : Work) → Shaped s (w .tabs) → Fine s w (turn i w)) → (is : List ℕ) → all p is ≡ true → (w : Work) → Shaped s (w .tabs) → Fine s w (inTurn turn is w)
+unfolding inTurn
+fine-in-turn turn p fine [] h w sh = idle w
+fine-in-turn turn p fine (i ∷ is) h w sh = fine-then sh (fine i (all-head p i is h) w sh) (fine-in-turn turn p fine is (all-tail p i is h))
+
 module _ (change : Change) {s : Schema} (valid : Valid s) (new : List ℤ) (fine : (t r : ℕ) (vs : List ℤ) → inTable s t r ≡ true → (w : Work) → Shaped s (w .tabs) → Fine s w (change t r vs w)) where
   fine-taken : (a : Action) (k : ForeignKey) (i : ℕ) (x : Row) → inTable s (k .child) i ≡ true → (w : Work) → Shaped s (w .tabs) → Fine s w (taken change s new a k i x w)
   unfolding taken ofChange number
@@ -191,9 +198,7 @@ module _ (change : Change) {s : Schema} (valid : Valid s) (new : List ℤ) (fine
 
   fine-children : (k : ForeignKey) (old : Row) (is : List ℕ) → all (inTable s (k .child)) is ≡ true → (w : Work) → Shaped s (w .tabs) → Fine s w (children change s new k old is w)
   unfolding children
-  fine-children k old [] h w sh = idle w
-  fine-children k old (i ∷ is) h w sh =
-      fine-then sh (fine-turn k old i (all-head _ i is h) w sh) (fine-children k old is (all-tail _ i is h))
+  fine-children k old = fine-in-turn (rowTurn change s new k old) (inTable s (k .child)) (fine-turn k old)
 
   rows-below : (k : ForeignKey) → all (inTable s (k .child)) (upFrom 0 (tableOf s (k .child) .rows)) ≡ true
   unfolding inTable
@@ -216,6 +221,13 @@ fine-change {s} v (suc n) t r new h w sh =
     fine-admitted _ _ (admits-code s t r new w) (λ e.
     let p : Undoes s w (write t r new w) = one-write v t r new w sh (spared s t r new w e) h in
     fine-after p (fine-actions (change n s) v new (fine-change v n) t _ (s .keys) _ (shaped-after p sh)))
+
+-- and the rows that a statement finds
+pub fine-found : {s : Schema} → Valid s → (t : ℕ) (found : Row → Bool) (new : Row → Row) (w : Work) → Shaped s (w .tabs) → Fine s w (rowsFound s t found new w)
+unfolding rowsFound foundTurn inTable
+fine-found {s} v t found new w sh =
+    fine-in-turn (foundTurn s t found new) (inTable s t) (λ i h w sh. fine-given _ _ (fine-change v 16 t i _ h w sh))
+    (upFrom 0 (tableOf s t .rows)) (below 0 (tableOf s t .rows) (tableOf s t .rows) (omega arith)) w sh
 
 -- undoing down to the use at entry gives the rows and the records of the entry; what was written is zeroed
 pub put-back-all : {s : Schema} {w v : Work} (u : Undoes s w v) → undoTo (length (w .used)) v ≡ record { tabs = w .tabs; used = w .used; spare = zeroRecords (length (u .new)) ++ v .spare }

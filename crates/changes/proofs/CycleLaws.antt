@@ -20,9 +20,10 @@ use Rattle.rules.specs.Lists.{upFrom}
 use Rattle.rules.specs.Rows.{Row, image}
 use Rattle.rules.specs.Keys.{fires}
 use Rattle.rules.specs.Book.{Work, write}
-use Rattle.rules.specs.Change.{Change, Result, go, then, given, admits, admitted, actionOf, taken, rowTurn, children, keyTurn, actions, change}
+use Rattle.rules.specs.Change.{Change, go, then, given, admits, admitted, actionOf, taken, rowTurn, children, keyTurn, actions, change}
 use Rattle.bridge.specs.Ready.{Placed, resultOf}
 use Rattle.bridge.proofs.Undo.{spared}
+use Rattle.bridge.proofs.TurnLaws.{turns-start, turns-none, turns-past, turns-done, turns-refused}
 use Rattle.moves.specs.Tally.{TalliedAt}
 use Rattle.change_parts.specs.Turns.{takesAt, actionImage}
 
@@ -33,11 +34,12 @@ at-placed h = record { ready = h .tallied .ready; table = h .table; row = h .row
 -- ---- child rows in turn
 module _ (rec : Change) (s : Schema) (new : Row) (k : ForeignKey) (old : Row) where
   pub rows-start : (n : ℕ) (w : Work) {m : ℕ} → m ≡ n → children rec s new k old (upFrom 0 n) w ≡ children rec s new k old (upFrom 0 (m - 0)) w
-  rows-start n w {m} h = let e : m - 0 ≡ n = omega arith in rw e refl
+  unfolding children
+  rows-start = turns-start (rowTurn rec s new k old)
 
   pub rows-none : (n j : ℕ) (w : Work) → n ≤ j → children rec s new k old (upFrom j (n - j)) w ≡ resultOf Pass w
-  unfolding children upFrom resultOf
-  rows-none n j w h = let e : n - j ≡ 0 = omega arith in rw e refl
+  unfolding children
+  rows-none = turns-none (rowTurn rec s new k old)
 
   row-idle : (j : ℕ) (w : Work) → takesAt k old (w .tabs) j ≡ false → rowTurn rec s new k old j w ≡ go w
   unfolding rowTurn given takesAt
@@ -47,45 +49,23 @@ module _ (rec : Change) (s : Schema) (new : Row) (k : ForeignKey) (old : Row) wh
   unfolding rowTurn given takesAt
   row-taken j w e = rw e refl
 
-  rows-first : (n j : ℕ) (w : Work) → j < n → children rec s new k old (upFrom j (n - j)) w ≡ then (rowTurn rec s new k old j w) (children rec s new k old (upFrom (j + 1) (n - (j + 1))))
-  unfolding children upFrom
-  rows-first n j w l = let q : n - j ≡ suc (n - suc j) = omega arith in rw (add-one, q) refl
-
-  -- rows that are not taken are passed over
-  pub rows-skip : (d n j : ℕ) (w : Work) → j + d ≤ n → ((i : ℕ) → j ≤ i → i < j + d → takesAt k old (w .tabs) i ≡ false)
-      → children rec s new k old (upFrom j (n - j)) w ≡ children rec s new k old (upFrom (j + d) (n - (j + d))) w
-  unfolding then
-  rows-skip zero n j w l s = let e : j + 0 ≡ j = omega arith in rw e refl
-  rows-skip (suc d) n j w l h =
-      let e : j + 1 + d ≡ j + suc d = omega arith in
-      rows-first n j w (omega arith)
-      ∙ ap (λ (x : Result). then x (children rec s new k old (upFrom (j + 1) (n - (j + 1))))) (row-idle j w (h j (omega arith) (omega arith)))
-      ∙ rows-skip d n (j + 1) w (omega arith) (λ i p q. h i (omega arith) (omega arith))
-      ∙ ap (λ (m : ℕ). children rec s new k old (upFrom m (n - m)) w) e
-
   module _ (n j i : ℕ) (w : Work) (low : j ≤ i) (high : i < n) (idle : (m : ℕ) → j ≤ m → m < i → takesAt k old (w .tabs) m ≡ false) where
-    skip : children rec s new k old (upFrom j (n - j)) w ≡ children rec s new k old (upFrom i (n - i)) w
-    skip =
-        let e : j + (i - j) ≡ i = omega arith in
-        rows-skip (i - j) n j w (omega arith) (λ m p q. idle m p (omega arith)) ∙ ap (λ (m : ℕ). children rec s new k old (upFrom m (n - m)) w) e
-
     module _ (on : takesAt k old (w .tabs) i ≡ true) (t : ℕ) (et : t ≡ k .child) (o : Verdict) (v : Work) (e : resultOf o v ≡ taken rec s new (actionOf new k) k i (image t i (w .tabs)) w) where
       turn-is : rowTurn rec s new k old i w ≡ resultOf o v
       turn-is = row-taken i w on ∙ ap (λ (u : ℕ). taken rec s new (actionOf new k) k i (image u i (w .tabs)) w) (sym et) ∙ sym e
 
       pub rows-done : o ≡ Pass → children rec s new k old (upFrom j (n - j)) w ≡ children rec s new k old (upFrom (i + 1) (n - (i + 1))) v
-      unfolding then resultOf
-      rows-done p = skip ∙ rows-first n i w high ∙ rw (turn-is, p) refl
+      unfolding children
+      rows-done = turns-done (rowTurn rec s new k old) n j i w low (omega (arith, high)) (λ m p q. row-idle m w (idle m p q)) high o v turn-is
 
       pub rows-refused : {c : Refusal} → o ≡ Fail c → children rec s new k old (upFrom j (n - j)) w ≡ resultOf (Fail c) v
-      unfolding then resultOf
-      rows-refused p = skip ∙ rows-first n i w high ∙ rw (turn-is, p) refl
+      unfolding children
+      rows-refused = turns-refused (rowTurn rec s new k old) n j i w low (omega (arith, high)) (λ m p q. row-idle m w (idle m p q)) high o v turn-is
 
   -- none of the rest is taken
   pub rows-past : (n j i : ℕ) (w : Work) → j ≤ i → i ≤ n → n ≤ i → ((m : ℕ) → j ≤ m → m < i → takesAt k old (w .tabs) m ≡ false) → children rec s new k old (upFrom j (n - j)) w ≡ resultOf Pass w
-  rows-past n j i w l h p idle =
-      let e : j + (i - j) ≡ i = omega arith in
-      rows-skip (i - j) n j w (omega arith) (λ m a b. idle m a (omega arith)) ∙ ap (λ (m : ℕ). children rec s new k old (upFrom m (n - m)) w) e ∙ rows-none n i w p
+  unfolding children
+  rows-past n j i w l h p idle = turns-past (rowTurn rec s new k old) n j i w l h (λ m a b. row-idle m w (idle m a b)) p
 
 -- ---- keys in turn
 drop-past : {A : Type 0} (k : ℕ) (l : List A) → length l ≤ k → drop k l ≡ []

@@ -5,7 +5,7 @@ use mathlib.Core.Bool.{Bool, true, false}
 use mathlib.Core.List.{List, [], _∷_}
 use Prim.Native.Nat.{ℕ, _+_, _-_, _≤_}
 use native.Mathlib.Omega.{arith}
-use lib.Dec.{eqb, eqb→eq}
+use lib.Dec.{eqb→eq}
 use lib.IntN.{ℤ}
 use lib.ListN.{length, length-append}
 use Rattle.schema.specs.declared.SchemaAnswer.{SchemaAnswer}
@@ -21,15 +21,17 @@ use Rattle.rules.specs.declared.Refusal.{Refusal}
 use Rattle.rules.specs.declared.Answer.{Answer}
 use Rattle.rules.specs.Refusals.{shown}
 use Rattle.rules.specs.Book.{Work, Book}
-use Rattle.rules.specs.Calls.{Call, malformed, insert, update, delete, begin, savepoint, release, rollbackTo, rollback, commit, inTable, parse, allowed}
+use Rattle.rules.specs.Calls.{Call, malformed, insert, update, delete, begin, savepoint, release, rollbackTo, rollback, commit, deleteWhere, updateWhere, inTable, parse, allowed}
 use Rattle.rules.specs.Change.{Result}
+use Rattle.rules.specs.Rows.{Row}
+use Rattle.rules.specs.Found.{rowsFound}
 use Rattle.rules.specs.Statement.{Turn, check, demand, settle, conclude, statement, rowStatement}
 use Rattle.rules.specs.Step.{opened, committed, released, rolled, act, step}
 use Rattle.rules.specs.Area.{AreaTurn, ensure, areaStep}
 use Rattle.rules.specs.Engine.{underSchema, callOn}
 use Rattle.bridge.proofs.Tests.{holds}
 use Rattle.bridge.proofs.RoundTrip.{Formed, formed-view}
-use Rattle.bridge.proofs.Undo.{Undoes, Fine, went, stopped, fine-change}
+use Rattle.bridge.proofs.Undo.{Undoes, Fine, went, stopped, fine-change, fine-found}
 
 -- an answer's rows changed are at most n
 abbrev Few : {B : Type 0} → ℕ → Answer × B → Type 0
@@ -67,6 +69,10 @@ module _ {s : Schema} {b : Book} (v : Valid s) (f : Formed s b) where
   unfolding rowStatement statement
   few-row fits t r new i = few-check fits _ _ (λ h. few-conclude (fine-change v _ t r new i (b .work) (f .shaped)))
 
+  few-found : (t : ℕ) (found : Row → Bool) (new : Row → Row) → Few (s .room) (statement s (rowsFound s t found new) b)
+  unfolding statement
+  few-found t found new = few-conclude (fine-found v t found new (b .work) (f .shaped))
+
   few-opened : (o : ℕ) (rest : List (List ℤ)) → Few (s .room) (opened o rest b)
   unfolding opened shown
   few-opened o [] = omega arith
@@ -97,6 +103,8 @@ module _ {s : Schema} {b : Book} (v : Valid s) (f : Formed s b) where
   few-act (rollbackTo a) i = few-check _ _ _ (λ h. few-rolled _)
   few-act rollback i = few-check _ _ _ (λ h. few-rolled _)
   few-act commit i = few-check _ _ _ (λ h. few-committed)
+  few-act (deleteWhere t c m x) i = few-found t _ _
+  few-act (updateWhere t c m x d y) i = few-found t _ _
 
   few-step : (c : List ℤ) → Few (s .room) (step s c b)
   unfolding step

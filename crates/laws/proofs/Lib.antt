@@ -5,6 +5,7 @@ pub mod Formed
 pub mod Struck
 pub mod Areas
 pub mod Undone
+pub mod NoneFound
 pub mod Changed
 pub mod Demand3
 pub mod Reached

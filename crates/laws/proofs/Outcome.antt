@@ -13,13 +13,15 @@ use lib.ListN.{length, drop-of-length-le}
 use Rattle.bridge.proofs.CountBounds.{counts-in-range}
 use Rattle.bridge.proofs.Counts.{kept-counted}
 use Rattle.bridge.proofs.Tests.{holds, fails}
-use Rattle.bridge.proofs.Undo.{Undoes, Fine, went, stopped, ofChange, fine-change, shaped-after}
+use Rattle.bridge.proofs.Undo.{Undoes, Fine, went, stopped, ofChange, fine-change, fine-found, shaped-after}
 use Rattle.laws.proofs.Back.{Good, moved, unused}
 use Rattle.laws.proofs.Good.{cleared-is, good-alone, good-undamaged}
 use Rattle.laws.specs.Regular.{regular, regularAnswer}
 use Rattle.rules.specs.Book.{Work, Book, close, back, ended, abort, push}
-use Rattle.rules.specs.Calls.{Call, malformed, insert, update, delete, begin, savepoint, release, rollbackTo, rollback, commit, inTable, parse, allowed}
-use Rattle.rules.specs.Change.{Result, change}
+use Rattle.rules.specs.Calls.{Call, malformed, insert, update, delete, begin, savepoint, release, rollbackTo, rollback, commit, deleteWhere, updateWhere, inTable, parse, allowed}
+use Rattle.rules.specs.Change.{Result}
+use Rattle.rules.specs.Found.{rowsFound}
+use Rattle.rules.specs.Rows.{Row}
 use Rattle.rules.specs.Keys.{counts}
 use Rattle.rules.specs.Lists.{less, plus}
 use Rattle.rules.specs.Refusals.{number}
@@ -107,6 +109,10 @@ module _ {s : Schema} {b : Book} (v : Valid s) (g : Good s b) where
   unfolding rowStatement statement regular number
   of-row fits t r new p i = of-check fits _ _ refl (λ h. of-conclude p (fine-change v _ t r new i (b .work) (g .shaped)))
 
+  of-found : {c : Call} (t : ℕ) (found : Row → Bool) (new : Row → Row) → Plain c → Outcome s b c (statement s (rowsFound s t found new) b)
+  unfolding statement
+  of-found t found new p = of-conclude p (fine-found v t found new (b .work) (g .shaped))
+
   of-opened : {c : Call} (o : ℕ) (rest : List (List ℤ)) → Opens c → b .closed ≡ rest → (inTransaction (b .levels) ≡ true → o ≡ b .opener) → openerFits true o ≡ true → Outcome s b c (opened o rest b)
   unfolding opened regular number
   of-opened o [] p e f t = refusal refl refl
@@ -149,6 +155,8 @@ module _ {s : Schema} {b : Book} (v : Valid s) (g : Good s b) where
   of-act (rollbackTo a) i = of-check _ _ _ refl (λ h. backing a (level-pos a h) (level-le a h) refl)
   of-act rollback i = of-check _ _ _ refl (λ h. aborting h refl)
   of-act commit i = of-check _ _ _ refl (λ h. of-committed (λ x k e. refl))
+  of-act (deleteWhere t c m x) i = of-found t _ _ (λ x k. refl)
+  of-act (updateWhere t c m x d y) i = of-found t _ _ (λ x k. refl)
 
   pub outcome : (ws : List ℤ) → Outcome s b (parse ws) (step s ws b)
   unfolding step regular number

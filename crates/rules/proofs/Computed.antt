@@ -1,10 +1,11 @@
--- What calls on a fresh area come to, computed by the rules.
+-- What calls come to, computed by the rules.
 -- Assumes nothing.
 use mathlib.Core.Bool.{Bool}
 use mathlib.Core.List.{List, [], _∷_}
 use Prim.Native.Nat.{ℕ}
 use lib.Count.{ones, onesIn}
 use lib.IntN.{ℤ}
+use lib.ListN.{set}
 use Rattle.schema.specs.Bytes.{bit}
 use Rattle.schema.specs.Check.{startsWith, headerRest, headerRules, maskRule, sizeRules, tableRest, tableRules, columnRule, newColumn, columnsRule, codeRules, keyRest, keyRules, wellFormed, inMask, maskIs, uniqueIs, parentRules, checkSchema}
 use Rattle.schema.specs.Fields.{tableFrom, actionFrom, keyFrom, schemaOf}
@@ -12,8 +13,9 @@ use Rattle.schema.specs.Ranges.{allFrom, anyFrom, andAll, every, listFrom, all}
 use Rattle.schema.specs.Sizes.{tableSize, rowsSize, tableOffset, areaSize}
 use Rattle.rules.specs.Area.{levelWords, entryWords, words, levelOf, entryOf, tablesOf, levelPart, rowPart, recordPart, view, naturalHead, legible, ensure, areaStep, freshWords}
 use Rattle.rules.specs.Book.{undoOne, undoAll, undo, undoTo, emptied, cleared, push, close, backTo, back, ended, firstKept, abort, blank, fresh}
-use Rattle.rules.specs.Calls.{formedIf, parsed, parse, inTable, rowFits, levelNumber, allowed}
-use Rattle.rules.specs.Change.{then, given, notNullBroken, twice, uniqueBroken, admits, admitted, flag, setCell, fillsNull, filler, refilled, childImage, cascaded, actionOf, taken, rowTurn, children, keyTurn, actions, change}
+use Rattle.rules.specs.Calls.{formedIf, parsed, parse, inTable, rowFits, inColumns, seeksNull, setsNull, valueFits, levelNumber, allowed}
+use Rattle.rules.specs.Change.{then, given, inTurn, notNullBroken, twice, uniqueBroken, admits, admitted, flag, setCell, fillsNull, filler, refilled, childImage, cascaded, actionOf, taken, rowTurn, children, keyTurn, actions, change}
+use Rattle.rules.specs.Found.{cellIs, isFound, rowSet, foundTurn, rowsFound}
 use Rattle.rules.specs.Engine.{underSchema, makeFresh, callOn}
 use Rattle.rules.specs.Keys.{sameCell, sameKey, fullKey, maskColumnsFrom, maskColumns, mapsTo, due, serves, orphan, orphans, counts, takes, sameParentKey, fires}
 use Rattle.rules.specs.Lists.{any, count, flat, chunks, one, upFrom, sum, less, plus}
@@ -39,15 +41,25 @@ unfolding shown number
 show [] = []
 show (x ∷ xs) = shown (x .1) ∷ show xs
 
--- the calls with their answers and the last area
+-- calls on an area: each with its answer, and the last area
+unfoldable pub ranOn : List ℕ → List ℤ → List (List ℤ) → List Logged × List ℤ
+unfolding bit startsWith headerRest headerRules maskRule sizeRules tableRest tableRules columnRule newColumn columnsRule codeRules keyRest keyRules wellFormed inMask maskIs uniqueIs parentRules checkSchema tableFrom actionFrom keyFrom schemaOf allFrom anyFrom andAll every listFrom all tableSize rowsSize tableOffset areaSize levelWords entryWords words levelOf entryOf tablesOf levelPart rowPart recordPart view naturalHead legible ensure areaStep freshWords undoOne undoAll undo undoTo emptied cleared push close backTo back ended firstKept abort blank fresh formedIf parsed parse inTable rowFits inColumns seeksNull setsNull valueFits levelNumber allowed cellIs isFound rowSet inTurn foundTurn rowsFound then given notNullBroken twice uniqueBroken admits admitted flag setCell fillsNull filler refilled childImage cascaded actionOf taken rowTurn children keyTurn actions change underSchema makeFresh callOn sameCell sameKey fullKey maskColumnsFrom maskColumns mapsTo due serves orphan orphans counts takes sameParentKey fires any count flat chunks one upFrom sum less plus number shown accepted failing rowAt putRow overwrite image deletedImage liveState live nullAt valueAt maskOf held liveImage normal inTransaction openerFits keptInRange savedInRange usesRise placed undamaged levelOpen check demand immediateZero enforced journalAfter afterStatement settle conclude statement rowStatement opened openerOf committed released rolled act step runAll place mark marks strike callsOf sameValue sameValues allZero natOf natural inRange ones onesIn
+ranOn bs ws cs = runOn bs cs ws
+
+-- calls on a fresh area
 unfoldable pub ran : List ℕ → List (List ℤ) → List Logged × List ℤ
-unfolding bit startsWith headerRest headerRules maskRule sizeRules tableRest tableRules columnRule newColumn columnsRule codeRules keyRest keyRules wellFormed inMask maskIs uniqueIs parentRules checkSchema tableFrom actionFrom keyFrom schemaOf allFrom anyFrom andAll every listFrom all tableSize rowsSize tableOffset areaSize levelWords entryWords words levelOf entryOf tablesOf levelPart rowPart recordPart view naturalHead legible ensure areaStep freshWords undoOne undoAll undo undoTo emptied cleared push close backTo back ended firstKept abort blank fresh formedIf parsed parse inTable rowFits levelNumber allowed then given notNullBroken twice uniqueBroken admits admitted flag setCell fillsNull filler refilled childImage cascaded actionOf taken rowTurn children keyTurn actions change underSchema makeFresh callOn sameCell sameKey fullKey maskColumnsFrom maskColumns mapsTo due serves orphan orphans counts takes sameParentKey fires any count flat chunks one upFrom sum less plus number shown accepted failing rowAt putRow overwrite image deletedImage liveState live nullAt valueAt maskOf held liveImage normal inTransaction openerFits keptInRange savedInRange usesRise placed undamaged levelOpen check demand immediateZero enforced journalAfter afterStatement settle conclude statement rowStatement opened openerOf committed released rolled act step runAll place mark marks strike callsOf sameValue sameValues allZero natOf natural inRange ones onesIn
-ran bs cs = runOn bs cs (freshWords (schemaOf bs))
+unfolding ranOn freshWords areaSize rowsSize tableSize schemaOf tableFrom keyFrom actionFrom listFrom
+ran bs cs = ranOn bs (freshWords (schemaOf bs)) cs
 
 -- the answers
 unfoldable pub answers : List ℕ → List (List ℤ) → Shown
 unfolding ran show
 answers bs cs = show (ran bs cs .0)
+
+-- the answers of calls on a fresh area whose word n is set to v
+unfoldable pub answersWith : List ℕ → ℕ → ℤ → List (List ℤ) → Shown
+unfolding ranOn show freshWords areaSize rowsSize tableSize schemaOf tableFrom keyFrom actionFrom listFrom
+answersWith bs n v cs = show (ranOn bs (set (freshWords (schemaOf bs)) n v) cs .0)
 
 -- two lists of calls end in areas equal in every word
 unfoldable pub sameArea : List ℕ → List (List ℤ) → List (List ℤ) → Bool

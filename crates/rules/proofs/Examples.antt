@@ -7,7 +7,7 @@ use Prim.Native.Nat.{ℕ}
 use lib.IntN.{ℤ, pos, negsuc}
 use lib.ListN.{take, replicate}
 use Rattle.rules.specs.declared.Orphan.{Orphan}
-use Rattle.rules.proofs.Inputs.{schemaS, selfReferring, twoKeys, crossedKeys, pairKey, insert, update, delete, begin, savepoint, release, rollbackTo, rollback, commit, selves, family}
+use Rattle.rules.proofs.Inputs.{schemaS, selfReferring, twoKeys, crossedKeys, pairKey, insert, update, delete, begin, savepoint, release, rollbackTo, rollback, commit, deleteWhere, updateWhere, selves, family, readings}
 use Rattle.rules.proofs.Computed.{answers, sameArea, callsLeft, listedAfter}
 use Rattle.rules.proofs.PaperCases.{Case}
 
@@ -64,7 +64,7 @@ pub record Undone : Type 0 where
   pub left : List (List ℤ)
 
 unfoldable pub undoneExamples : List Undone
-unfolding schemaS insert update delete begin savepoint release rollbackTo rollback commit
+unfolding schemaS readings insert update delete begin savepoint release rollbackTo rollback commit deleteWhere updateWhere
 undoneExamples =
     -- the journal is undone newest first
     record {
@@ -78,6 +78,23 @@ undoneExamples =
       sent = begin ∷ insert 0 0 0 (pos 1 ∷ []) ∷ savepoint ∷ delete 0 0 ∷ savepoint ∷ insert 0 1 0 (pos 4 ∷ []) ∷ rollbackTo 2 ∷ commit ∷ [];
       left = begin ∷ insert 0 0 0 (pos 1 ∷ []) ∷ savepoint ∷ commit ∷ [];
     }
+    -- "Striking out and the kept counts cover these two kinds like kinds 1 to 3"; a unique key broken at the second row puts the first back
+    ∷ record {
+      schema = schemaS;
+      sent =
+          readings
+          ++ (begin
+          ∷ updateWhere 1 1 0 (pos 5) 1 (pos 6)
+          ∷ savepoint
+          ∷ deleteWhere 1 1 0 (pos 6)
+          ∷ updateWhere 1 0 0 (pos 12) 0 (pos 14)
+          ∷ rollbackTo 2
+          ∷ updateWhere 1 1 0 (pos 6) 0 (pos 20)
+          ∷ deleteWhere 1 0 0 (pos 12)
+          ∷ commit
+          ∷ []);
+      left = readings ++ (begin ∷ updateWhere 1 1 0 (pos 5) 1 (pos 6) ∷ savepoint ∷ deleteWhere 1 0 0 (pos 12) ∷ commit ∷ []);
+    }
     ∷ []
 
 -- what is left after striking out is those calls, and they end in the same area
@@ -85,7 +102,7 @@ pub undone-struck : map (λ (u : Undone). callsLeft (u .schema) (u .sent)) undon
 unfolding callsLeft undoneExamples
 undone-struck = refl
 
-pub undone-same : map (λ (u : Undone). sameArea (u .schema) (u .sent) (u .left)) undoneExamples ≡ true ∷ true ∷ []
+pub undone-same : map (λ (u : Undone). sameArea (u .schema) (u .sent) (u .left)) undoneExamples ≡ true ∷ true ∷ true ∷ []
 unfolding sameArea undoneExamples
 undone-same = refl
 

@@ -102,6 +102,16 @@ unfoldable pub commit : List ℤ
 unfolding call
 commit = call 9 0 0 0 []
 
+-- table, column searched, word 3, sought value
+unfoldable pub deleteWhere : ℕ → ℕ → ℕ → ℤ → List ℤ
+unfolding call
+deleteWhere t c m v = call 10 t c m (v ∷ [])
+
+-- and the column to set, its new value
+unfoldable pub updateWhere : ℕ → ℕ → ℕ → ℤ → ℕ → ℤ → List ℤ
+unfolding call
+updateWhere t c m v d y = call 11 t c m (v ∷ pos d ∷ y ∷ [])
+
 -- "begin; insert table 1 row 0 (11, 5); commit; insert table 0 row 0 (5); commit; update table 0 row 0 to (6); delete table 0 row 1; delete table 0 row 0"
 unfoldable pub eightCalls : List (List ℤ)
 unfolding begin insert commit update delete
@@ -137,3 +147,14 @@ selves i (suc n) = insert 0 i 0 (pos i ∷ pos i ∷ []) ∷ selves (suc i) n
 unfoldable pub family : List (List ℤ)
 unfolding insert delete
 family = insert 0 0 0 (pos 7 ∷ []) ∷ insert 1 1 0 (pos 7 ∷ []) ∷ delete 0 0 ∷ []
+
+-- two parents, and three child rows in a table of four
+unfoldable pub readings : List (List ℤ)
+unfolding insert
+readings =
+    insert 0 0 0 (pos 5 ∷ [])
+    ∷ insert 0 1 0 (pos 6 ∷ [])
+    ∷ insert 1 0 0 (pos 11 ∷ pos 5 ∷ [])
+    ∷ insert 1 1 2 (pos 12 ∷ [])
+    ∷ insert 1 3 0 (pos 13 ∷ pos 5 ∷ [])
+    ∷ []

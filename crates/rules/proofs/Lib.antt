@@ -3,3 +3,4 @@ pub mod Inputs
 pub mod Computed
 pub mod PaperCases
 pub mod Examples
+pub mod ManyRows

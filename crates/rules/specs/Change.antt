@@ -34,6 +34,11 @@ unfoldable pub given : Bool → (Work → Result) → Work → Result
 given true k w = k w
 given false k w = go w
 
+-- one row after the other
+unfoldable pub inTurn : (ℕ → Work → Result) → List ℕ → Work → Result
+inTurn turn [] w = go w
+inTurn turn (i ∷ is) w = then (turn i w) (inTurn turn is)
+
 -- one row changed at some depth: table, row, the new image
 abbrev pub Change : Type 0
 Change = ℕ → ℕ → Row → Work → Result
@@ -124,8 +129,7 @@ module _ (change : Change) (s : Schema) (new : Row) where
 
   -- "child rows go by rising number"
   unfoldable pub children : ForeignKey → Row → List ℕ → Work → Result
-  children k old [] w = go w
-  children k old (i ∷ is) w = then (rowTurn k old i w) (children k old is)
+  children k old = inTurn (rowTurn k old)
 
   unfoldable pub keyTurn : ℕ → Row → ForeignKey → Work → Result
   keyTurn t old k w = given (fires new t old k) (children k old (upFrom 0 (tableOf s (k .child) .rows))) w

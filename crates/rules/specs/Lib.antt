@@ -8,6 +8,7 @@ pub mod Book
 pub mod Calls
 pub mod State
 pub mod Change
+pub mod Found
 pub mod Statement
 pub mod Step
 pub mod Area

@@ -14,9 +14,10 @@ use Rattle.rules.specs.Lists.{𝟘, sum, less}
 use Rattle.rules.specs.Values.{allZero}
 use Rattle.rules.specs.Rows.{rowAt, live, liveImage, deletedImage}
 use Rattle.rules.specs.Book.{Book, push, close, back, ended, abort}
-use Rattle.rules.specs.Calls.{Call, malformed, insert, update, delete, begin, savepoint, release, rollbackTo, rollback, commit, parse, allowed}
+use Rattle.rules.specs.Calls.{Call, malformed, insert, update, delete, begin, savepoint, release, rollbackTo, rollback, commit, deleteWhere, updateWhere, seeksNull, setsNull, parse, allowed}
 use Rattle.rules.specs.State.{inTransaction, undamaged, levelOpen}
-use Rattle.rules.specs.Statement.{Turn, check, rowStatement}
+use Rattle.rules.specs.Found.{isFound, rowSet, rowsFound}
+use Rattle.rules.specs.Statement.{Turn, check, statement, rowStatement}
 
 -- the next level opens: "13: savepoint with nine levels open"
 unfoldable pub opened : ℕ → List (List ℤ) → Book → Turn
@@ -41,6 +42,7 @@ released false n b = (Done 0 𝟘, close n b)
 unfoldable pub rolled : Book → Book → Turn
 rolled b′ b = (Done (length (b .work .used) - length (b′ .work .used)) (sum (less (b′ .kept) (b .kept))), b′)
 
+-- the call, by kind. Kinds 10 and 11 are one statement each: "Immediate keys are judged once, after the last row."
 unfoldable pub act : Schema → Call → Book → Turn
 act s malformed b = (Refused BadCall, b)
 act s (insert t r m vs) b = rowStatement s (not (live (rowAt t r (b .work .tabs)))) t r (liveImage (tableOf s t .columns) m vs) b
@@ -52,6 +54,8 @@ act s (release a) b = check (levelOpen b a) LevelState (released (eqb a 1) (suc 
 act s (rollbackTo a) b = check (levelOpen b a) LevelState (λ b. rolled (back (length (b .levels) - a) b) b) b
 act s rollback b = check (inTransaction (b .levels)) LevelState (λ b. rolled (abort b) b) b
 act s commit b = check (inTransaction (b .levels)) LevelState committed b
+act s (deleteWhere t c m v) b = statement s (rowsFound s t (isFound c (seeksNull m) v) (λ x. deletedImage)) b
+act s (updateWhere t c m v d y) b = statement s (rowsFound s t (isFound c (seeksNull m) v) (rowSet (tableOf s t .columns) d (setsNull m) y)) b
 
 -- "Order: .. 4, 10, then 11 to 13, .."
 unfoldable pub step : Schema → List ℤ → Book → Turn

@@ -14,7 +14,7 @@ use Rattle.rules.specs.Lists.{𝟘}
 use Rattle.rules.specs.Values.{allZero}
 use Rattle.rules.specs.Refusals.{accepted}
 use Rattle.rules.specs.Keys.{counts}
-use Rattle.rules.specs.Calls.{Call, malformed, insert, update, delete, begin, savepoint, release, rollbackTo, rollback, commit, parse}
+use Rattle.rules.specs.Calls.{Call, malformed, insert, update, delete, begin, savepoint, release, rollbackTo, rollback, commit, deleteWhere, updateWhere, parse}
 use Rattle.rules.specs.Step.{Logged}
 use Rattle.rules.specs.Area.{view}
 use Rattle.rules.specs.Engine.{callOn, runOn}
@@ -27,7 +27,7 @@ pub record Struck : Type 0 where
 abbrev pub joined : Logged → List Logged → List Logged
 joined x line = line ++ (x ∷ [])
 
--- an accepted call, by kind
+-- an accepted call, by kind. "Striking out and the kept counts cover these two kinds like kinds 1 to 3": kinds 10 and 11 join the line
 unfoldable pub place : Call → Logged → Struck → Struck
 place malformed x k = k
 place (insert t r m vs) x k = record { line = joined x (k .line); pile = k .pile }
@@ -41,6 +41,8 @@ place (rollbackTo a) x k =
     record { line = take (getD pile 0 0) (k .line); pile = pile }
 place rollback x k = record { line = take (pred (getD (k .pile) (pred (length (k .pile))) 0)) (k .line); pile = [] }
 place commit x k = record { line = joined x (k .line); pile = [] }
+place (deleteWhere t c m v) x k = record { line = joined x (k .line); pile = k .pile }
+place (updateWhere t c m v d y) x k = record { line = joined x (k .line); pile = k .pile }
 
 -- "Refused, of any kind: nothing alters."
 unfoldable pub mark : Call → List ℤ → Answer → Struck → Struck
