@@ -14,8 +14,34 @@ use rows::TableRows;
 
 // ---- all rows
 
-// The first row from `from` on that is live and has an image's key; the number of rows where there is none.
-pub fn first_with_key(
+// The first row from `from` on that is live and has an image's key of one column; the number of rows where there is none.
+fn first_in_column(
+    area: &[i64],
+    table: TableRows,
+    image: &[i64; 9],
+    cs: &[usize; 8],
+    ds: &[usize; 8],
+    from: usize,
+) -> usize
+    requires { ⌜ (Standing (now area) table × (from ≤ table .count)) × (Columns (table .width) 1 (now cs) × Columns 9 1 (now ds)) ⌝ }
+    ensures { λ x. ⌜ FirstFrom (withKeyAt (take 1 (now (cs .entry))) (take 1 (now (ds .entry))) (now (image .entry)) (rowsIn (now (area .entry)) table)) (table .count) from x ⌝ }
+{
+    let start = table.start;
+    let w = table.width;
+    let rows = table.count;
+    let sought = skips::sought_of(image, 1, cs, ds);
+    let mut j = skips::skip_column(area, table, sought, from);
+    while j < rows {
+        if rows::has_key(area, start + j * w, w, image, 1, cs, ds) {
+            return j;
+        }
+        j = skips::skip_column(area, table, sought, j + 1);
+    }
+    rows
+}
+
+// The first row from `from` on that is live and has an image's key of n columns; the number of rows where there is none.
+fn first_in_columns(
     area: &[i64],
     table: TableRows,
     image: &[i64; 9],
@@ -39,6 +65,25 @@ pub fn first_with_key(
         j = skips::skip_rows(area, table, sought, j + 1);
     }
     rows
+}
+
+// The first row from `from` on that is live and has an image's key; the number of rows where there is none.
+pub fn first_with_key(
+    area: &[i64],
+    table: TableRows,
+    image: &[i64; 9],
+    n: usize,
+    cs: &[usize; 8],
+    ds: &[usize; 8],
+    from: usize,
+) -> usize
+    requires { ⌜ (Standing (now area) table × (from ≤ table .count)) × ((1 ≤ n) × (Columns (table .width) n (now cs) × Columns 9 n (now ds))) ⌝ }
+    ensures { λ x. ⌜ FirstFrom (withKeyAt (take n (now (cs .entry))) (take n (now (ds .entry))) (now (image .entry)) (rowsIn (now (area .entry)) table)) (table .count) from x ⌝ }
+{
+    if n == 1 {
+        return first_in_column(area, table, image, cs, ds, from);
+    }
+    first_in_columns(area, table, image, n, cs, ds, from)
 }
 
 // Whether one of the rows is live and has an image's key.

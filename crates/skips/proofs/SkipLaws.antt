@@ -1,4 +1,4 @@
--- Rows that are passed over have not the key.
+-- Rows that are passed over do not pass the test; rows that are not alike have not the key.
 -- Assumes nothing.
 use mathlib.Core.Path.{_≡_, refl, sym, _∙_, ap}
 use mathlib.Core.Bool.{Bool, true, false, _&&_, _||_, false≢true, true≢false}
@@ -26,7 +26,7 @@ use Rattle.rows.proofs.TableLaws.{rows-many, row-get}
 use Rattle.moves.proofs.Taken.{first, rest}
 use Rattle.skips.specs.declared.Sought.{Sought}
 use Rattle.skips.specs.WithKey.{withKey, withKeyAt}
-use Rattle.skips.specs.Skipped.{second, soughtOf, alike, fourAlike, Skipped}
+use Rattle.skips.specs.Skipped.{second, soughtOf, hasWord, alike, oneOfFour, Skipped}
 
 -- ---- the columns that are looked at
 
@@ -65,7 +65,7 @@ module _ (n : ℕ) (cs ds : List ℕ) (image : Row) (some : 1 ≤ n) (l : n ≤ 
   value-at row i h e = and-left (sameValue (getD row (suc (getD cs i 0)) 𝟘) (getD image (suc (getD ds i 0)) 𝟘)) _ (cell-at row image n i cs ds h l m e)
 
   alike-with : (row : Row) → withKey (take n cs) (take n ds) image row ≡ true → alike (soughtOf n cs ds image) row ≡ true
-  unfolding withKey alike soughtOf
+  unfolding withKey alike hasWord soughtOf
   alike-with row e =
       let key : sameKey (take n cs) (take n ds) row image ≡ true = and-right (live row) _ e in
       and-both (value-at row 0 (omega (arith, some)) key) (value-at row (second n) (second-below n some) key)
@@ -92,7 +92,7 @@ module _ (p : Row → Bool) (xs : List Row) where
       ∙ count-past k (j + 1) (omega (arith, l)) (λ i a b. h i (omega (arith, a)) (omega (arith, b)))
       ∙ ap (λ n. count p (drop n xs)) next
 
-module _ (a : List ℤ) (t : TableRows) (n : ℕ) (cs ds : List ℕ) (image : Row) (some : 1 ≤ n) {w : ℕ} (k : Columns w n cs) (q : Columns 9 n ds) {s : Sought} (e : s ≡ soughtOf n cs ds image) {from x : ℕ} (h : Skipped a t s from x) where
+module _ (a : List ℤ) (t : TableRows) (n : ℕ) (cs ds : List ℕ) (image : Row) (some : 1 ≤ n) {w : ℕ} (k : Columns w n cs) (q : Columns 9 n ds) {s : Sought} (e : s ≡ soughtOf n cs ds image) {from x : ℕ} (h : Skipped (alike s) a t from x) where
   abbrev P : Row → Bool
   P = withKey (take n cs) (take n ds) image
 
@@ -115,40 +115,38 @@ rows-fit j n w h = let low : j + 4 ≤ n = omega (arith, h) in mul-le-mul-right 
 
 -- ---- one row, four rows
 
-word-in : (a : List ℤ) (p w c : ℕ) → c < w → getD a (p + c) 𝟘 ≡ getD (rowIn a p w) c 𝟘
-unfolding rowIn
-word-in a p w c h = sym (getD-take w (drop p a) c 𝟘 h ∙ getD-drop p a c 𝟘)
+pub word-is : (a : List ℤ) (p w c : ℕ) (v : ℤ) → c < w → sameValue (getD a (p + c) 𝟘) v ≡ hasWord c v (rowIn a p w)
+unfolding hasWord rowIn
+word-is a p w c v h = ap (λ z. sameValue z v) (sym (getD-take w (drop p a) c 𝟘 h ∙ getD-drop p a c 𝟘))
 
-module _ (a : List ℤ) (p w : ℕ) (s : Sought) (hc : s .c < w) (hd : s .d < w) where
-  pub first-differs : {b : Bool} → b ≡ sameValue (getD a (p + s .c) 𝟘) (s .v) → b ≡ false → false ≡ alike s (rowIn a p w)
+module _ (s : Sought) (row : Row) where
+  pub first-differs : hasWord (s .c) (s .v) row ≡ false → alike s row ≡ false
   unfolding alike
-  first-differs e f = sym (ap (λ z. sameValue z (s .v) && sameValue (getD (rowIn a p w) (s .d) 𝟘) (s .u)) (sym (word-in a p w (s .c) hc)) ∙ ap (λ b. b && sameValue (getD (rowIn a p w) (s .d) 𝟘) (s .u)) (sym e ∙ f))
+  first-differs e = rw e refl
 
-  pub second-decides : {b b′ : Bool} → b ≡ sameValue (getD a (p + s .c) 𝟘) (s .v) → b ≡ true → b′ ≡ sameValue (getD a (p + s .d) 𝟘) (s .u) → b′ ≡ alike s (rowIn a p w)
+  pub second-decides : hasWord (s .c) (s .v) row ≡ true → hasWord (s .d) (s .u) row ≡ alike s row
   unfolding alike
-  second-decides e f g =
-      g ∙ ap (λ z. sameValue z (s .u)) (word-in a p w (s .d) hd)
-      ∙ ap (λ b. b && sameValue (getD (rowIn a p w) (s .d) 𝟘) (s .u)) (sym (sym (ap (λ z. sameValue z (s .v)) (word-in a p w (s .c) hc)) ∙ sym e ∙ f))
+  second-decides e = sym (ap (λ b. b && hasWord (s .d) (s .u) row) e)
 
-module _ (a : List ℤ) (start w : ℕ) (s : Sought) (j : ℕ) where
-  four-is : fourAlike a start w s j ≡ alike s (rowIn a (start + j * w) w) || (alike s (rowIn a (start + j * w + w) w) || (alike s (rowIn a (start + j * w + w + w) w) || alike s (rowIn a (start + j * w + w + w + w) w)))
-  unfolding fourAlike
+module _ (p : Row → Bool) (a : List ℤ) (start w j : ℕ) where
+  pub four-is : oneOfFour p a start w j ≡ p (rowIn a (start + j * w) w) || (p (rowIn a (start + j * w + w) w) || (p (rowIn a (start + j * w + w + w) w) || p (rowIn a (start + j * w + w + w + w) w)))
+  unfolding oneOfFour
   four-is =
       let p1 : start + (j + 1) * w ≡ start + j * w + w = omega arith in
       let p2 : start + (j + 2) * w ≡ start + j * w + w + w = omega arith in
       let p3 : start + (j + 3) * w ≡ start + j * w + w + w + w = omega arith in
       rw (p1, p2, p3) refl
 
-  pub four-first : alike s (rowIn a (start + j * w) w) ≡ true → true ≡ fourAlike a start w s j
+  pub four-first : p (rowIn a (start + j * w) w) ≡ true → true ≡ oneOfFour p a start w j
   four-first e = sym (four-is ∙ rw e refl)
 
-  pub four-second : alike s (rowIn a (start + j * w) w) ≡ false → alike s (rowIn a (start + j * w + w) w) ≡ true → true ≡ fourAlike a start w s j
+  pub four-second : p (rowIn a (start + j * w) w) ≡ false → p (rowIn a (start + j * w + w) w) ≡ true → true ≡ oneOfFour p a start w j
   four-second e f = sym (four-is ∙ rw (e, f) refl)
 
-  pub four-third : alike s (rowIn a (start + j * w) w) ≡ false → alike s (rowIn a (start + j * w + w) w) ≡ false → alike s (rowIn a (start + j * w + w + w) w) ≡ true → true ≡ fourAlike a start w s j
+  pub four-third : p (rowIn a (start + j * w) w) ≡ false → p (rowIn a (start + j * w + w) w) ≡ false → p (rowIn a (start + j * w + w + w) w) ≡ true → true ≡ oneOfFour p a start w j
   four-third e f g = sym (four-is ∙ rw (e, f, g) refl)
 
-  pub four-last : alike s (rowIn a (start + j * w) w) ≡ false → alike s (rowIn a (start + j * w + w) w) ≡ false → alike s (rowIn a (start + j * w + w + w) w) ≡ false → alike s (rowIn a (start + j * w + w + w + w) w) ≡ fourAlike a start w s j
+  pub four-last : p (rowIn a (start + j * w) w) ≡ false → p (rowIn a (start + j * w + w) w) ≡ false → p (rowIn a (start + j * w + w + w) w) ≡ false → p (rowIn a (start + j * w + w + w + w) w) ≡ oneOfFour p a start w j
   four-last e f g = sym (four-is ∙ rw (e, f, g) refl)
 
 none-of : (a b c d : Bool) → a || (b || (c || d)) ≡ false → (a ≡ false) × ((b ≡ false) × ((c ≡ false) × (d ≡ false)))
@@ -158,36 +156,43 @@ none-of false false true d h = absurd (true≢false h)
 none-of false false false d h = (refl, (refl, (refl, h)))
 
 -- ---- the loop
-module _ (a : List ℤ) (t : TableRows) (s : Sought) (from : ℕ) where
-  pub skip-start : from ≤ t .count → Skipped a t s from from
+module _ (p : Row → Bool) (a : List ℤ) (t : TableRows) (from : ℕ) where
+  pub skip-start : from ≤ t .count → Skipped p a t from from
   skip-start h = record { low = omega arith; high = h; none = λ j l m. absurd (omega (arith, l, m)) }
 
-  -- four rows more
-  pub skip-four : (j : ℕ) → Skipped a t s from j → 4 ≤ t .count - j → fourAlike a (t .start) (t .width) s j ≡ false → Skipped a t s from (j + 4)
-  unfolding fourAlike
-  skip-four j h l e =
-      let four = none-of (alike s (rowIn a (t .start + j * t .width) (t .width))) (alike s (rowIn a (t .start + (j + 1) * t .width) (t .width))) (alike s (rowIn a (t .start + (j + 2) * t .width) (t .width))) (alike s (rowIn a (t .start + (j + 3) * t .width) (t .width))) e in
-      record { low = omega (arith, h .low); high = omega (arith, l); none = λ i p q. by i (leb j i) refl p q (four .0) (four .1 .0) (four .1 .1 .0) (four .1 .1 .1) }
+  -- the row in the words
+  abbrev passes : ℕ → Bool
+  passes k = p (rowIn a (t .start + k * t .width) (t .width))
+
+  -- none of four rows from row j on
+  abbrev FourFail : ℕ → Type 0
+  FourFail j = (passes j ≡ false) × ((passes (j + 1) ≡ false) × ((passes (j + 2) ≡ false) × (passes (j + 3) ≡ false)))
+
+  four-fail : (j : ℕ) → j + 4 ≤ t .count → FourFail j → (i : ℕ) → j ≤ i → i < j + 4 → p (getD (rowsIn a t) i []) ≡ false
+  four-fail j l f i low high = by (i - j) (omega (arith, low))
     where
-      row : (i k : ℕ) → i ≡ k → k < t .count → alike s (rowIn a (t .start + k * t .width) (t .width)) ≡ false → alike s (getD (rowsIn a t) i []) ≡ false
-      row i k f m g = ap (λ n. alike s (getD (rowsIn a t) n [])) f ∙ ap (alike s) (sym (row-get a t k m)) ∙ g
+      row : (k : ℕ) → i ≡ k → k < t .count → passes k ≡ false → p (getD (rowsIn a t) i []) ≡ false
+      row k e m g = ap (λ n. p (getD (rowsIn a t) n [])) e ∙ ap p (sym (row-get a t k m)) ∙ g
 
-      past : (i : ℕ) → j ≤ i → i < j + 4
-          → alike s (rowIn a (t .start + j * t .width) (t .width)) ≡ false → alike s (rowIn a (t .start + (j + 1) * t .width) (t .width)) ≡ false
-          → alike s (rowIn a (t .start + (j + 2) * t .width) (t .width)) ≡ false → alike s (rowIn a (t .start + (j + 3) * t .width) (t .width)) ≡ false
-          → (d : ℕ) → i ≡ j + d → alike s (getD (rowsIn a t) i []) ≡ false
-      past i p q e0 e1 e2 e3 zero f = row i j (omega (arith, f)) (omega (arith, l)) e0
-      past i p q e0 e1 e2 e3 (suc zero) f = row i (j + 1) (omega (arith, f)) (omega (arith, l)) e1
-      past i p q e0 e1 e2 e3 (suc (suc zero)) f = row i (j + 2) (omega (arith, f)) (omega (arith, l)) e2
-      past i p q e0 e1 e2 e3 (suc (suc (suc zero))) f = row i (j + 3) (omega (arith, f)) (omega (arith, l)) e3
-      past i p q e0 e1 e2 e3 (suc (suc (suc (suc d)))) f = absurd (omega (arith, f, q))
+      by : (d : ℕ) → i ≡ j + d → p (getD (rowsIn a t) i []) ≡ false
+      by zero e = row j (omega (arith, e)) (omega (arith, l)) (f .0)
+      by (suc zero) e = row (j + 1) (omega (arith, e)) (omega (arith, l)) (f .1 .0)
+      by (suc (suc zero)) e = row (j + 2) (omega (arith, e)) (omega (arith, l)) (f .1 .1 .0)
+      by (suc (suc (suc zero))) e = row (j + 3) (omega (arith, e)) (omega (arith, l)) (f .1 .1 .1)
+      by (suc (suc (suc (suc d)))) e = absurd (omega (arith, e, high))
 
-      by : (i : ℕ) (b : Bool) → leb j i ≡ b → from ≤ i → i < j + 4
-          → alike s (rowIn a (t .start + j * t .width) (t .width)) ≡ false → alike s (rowIn a (t .start + (j + 1) * t .width) (t .width)) ≡ false
-          → alike s (rowIn a (t .start + (j + 2) * t .width) (t .width)) ≡ false → alike s (rowIn a (t .start + (j + 3) * t .width) (t .width)) ≡ false
-          → alike s (getD (rowsIn a t) i []) ≡ false
-      by i true g p q e0 e1 e2 e3 = past i (leb-true j i g) q e0 e1 e2 e3 (i - j) (omega (arith, leb-true j i g))
-      by i false g p q e0 e1 e2 e3 = h .none i p (leb-false j i g)
+  -- four rows more
+  pub skip-four : (j : ℕ) → Skipped p a t from j → 4 ≤ t .count - j → oneOfFour p a (t .start) (t .width) j ≡ false → Skipped p a t from (j + 4)
+  unfolding oneOfFour
+  skip-four j h l e = record { low = omega (arith, h .low); high = omega (arith, l); none = λ i m n. by i m n (leb j i) refl }
+    where
+      by : (i : ℕ) → from ≤ i → i < j + 4 → (b : Bool) → leb j i ≡ b → p (getD (rowsIn a t) i []) ≡ false
+      by i m n true g = four-fail j (omega (arith, l)) (none-of (passes j) (passes (j + 1)) (passes (j + 2)) (passes (j + 3)) e) i (leb-true j i g) n
+      by i m n false g = h .none i m (leb-false j i g)
+
+-- rows without the first word are not alike
+pub column-skipped : {a : List ℤ} {t : TableRows} {from x : ℕ} (s : Sought) → Skipped (hasWord (s .c) (s .v)) a t from x → Skipped (alike s) a t from x
+column-skipped s h = record { low = h .low; high = h .high; none = λ j l m. first-differs s _ (h .none j l m) }
 
 -- ---- what is read of the key's columns
 

@@ -1,4 +1,4 @@
--- Rows that cannot have a key, by two of its columns.
+-- Rows passed over four at a time; those that cannot have a key, by two of its columns.
 -- Assumes nothing.
 use mathlib.Core.Path.{_≡_}
 use mathlib.Core.Bool.{Bool, true, false, _&&_, _||_}
@@ -29,17 +29,20 @@ soughtOf n cs ds image =
       u = getD image (suc (getD ds (second n) 0)) 𝟘;
     }
 
+-- word c of a row is v
+unfoldable pub hasWord : ℕ → ℤ → Row → Bool
+hasWord c v row = sameValue (getD row c 𝟘) v
+
+-- a row that holds what is sought
 unfoldable pub alike : Sought → Row → Bool
-alike s row = sameValue (getD row (s .c) 𝟘) (s .v) && sameValue (getD row (s .d) 𝟘) (s .u)
+alike s row = hasWord (s .c) (s .v) row && hasWord (s .d) (s .u) row
 
--- one of four rows from row j on
-unfoldable pub fourAlike : List ℤ → ℕ → ℕ → Sought → ℕ → Bool
-fourAlike a start w s j =
-    alike s (rowIn a (start + j * w) w)
-    || (alike s (rowIn a (start + (j + 1) * w) w) || (alike s (rowIn a (start + (j + 2) * w) w) || alike s (rowIn a (start + (j + 3) * w) w)))
+-- one of four rows from row j on passes a test
+unfoldable pub oneOfFour : (Row → Bool) → List ℤ → ℕ → ℕ → ℕ → Bool
+oneOfFour p a start w j = p (rowIn a (start + j * w) w) || (p (rowIn a (start + (j + 1) * w) w) || (p (rowIn a (start + (j + 2) * w) w) || p (rowIn a (start + (j + 3) * w) w)))
 
--- x is a row from row `from` on, or the end; no row between is alike
-pub record Skipped (a : List ℤ) (t : TableRows) (s : Sought) (from x : ℕ) : Type 0 where
+-- x is a row from row `from` on, or the end; no row between passes the test
+pub record Skipped (p : Row → Bool) (a : List ℤ) (t : TableRows) (from x : ℕ) : Type 0 where
   pub low : from ≤ x
   pub high : x ≤ t .count
-  pub none : (j : ℕ) → from ≤ j → j < x → alike s (getD (rowsIn a t) j []) ≡ false
+  pub none : (j : ℕ) → from ≤ j → j < x → p (getD (rowsIn a t) j []) ≡ false

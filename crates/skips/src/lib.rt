@@ -5,7 +5,7 @@ ghost use lib.ListN.{length};
 ghost use Rattle.schema.specs.Bounds.{Columns};
 ghost use Rattle.bridge.specs.Ready.{rowIn};
 ghost use Rattle.rows.specs.Standing.{Standing};
-ghost use Rattle.skips.specs.Skipped.{second, soughtOf, alike, fourAlike, Skipped};
+ghost use Rattle.skips.specs.Skipped.{second, soughtOf, hasWord, alike, oneOfFour, Skipped};
 use rows::TableRows;
 
 // What a row must hold to have a key: word c is v, word d is u.
@@ -44,21 +44,29 @@ pub fn sought_of(image: &[i64; 9], n: usize, cs: &[usize; 8], ds: &[usize; 8]) -
     }
 }
 
+// Whether word c of the row at p is v.
+fn has_word(area: &[i64], p: usize, w: usize, c: usize, v: i64) -> bool
+    requires { ⌜ (p + w ≤ length (now area)) × (c < w) ⌝ }
+    ensures { λ x. ⌜ x ≡ hasWord c v (rowIn (now (area .entry)) p w) ⌝ }
+{
+    words::same_word(area[p + c], v)
+}
+
 // Whether the row at p holds what is sought.
 fn is_alike(area: &[i64], p: usize, w: usize, sought: Sought) -> bool
     requires { ⌜ (p + w ≤ length (now area)) × ((sought .c < w) × (sought .d < w)) ⌝ }
     ensures { λ x. ⌜ x ≡ alike sought (rowIn (now (area .entry)) p w) ⌝ }
 {
-    if !words::same_word(area[p + sought.c], sought.v) {
+    if !has_word(area, p, w, sought.c, sought.v) {
         return false;
     }
-    words::same_word(area[p + sought.d], sought.u)
+    has_word(area, p, w, sought.d, sought.u)
 }
 
 // Whether one of four rows from row j on holds what is sought.
 fn four_alike(area: &[i64], start: usize, w: usize, sought: Sought, j: usize) -> bool
     requires { ⌜ (start + (j + 4) * w ≤ length (now area)) × ((sought .c < w) × (sought .d < w)) ⌝ }
-    ensures { λ x. ⌜ x ≡ fourAlike (now (area .entry)) start w sought j ⌝ }
+    ensures { λ x. ⌜ x ≡ oneOfFour (alike sought) (now (area .entry)) start w j ⌝ }
 {
     let p = start + j * w;
     if is_alike(area, p, w, sought) {
@@ -73,10 +81,10 @@ fn four_alike(area: &[i64], start: usize, w: usize, sought: Sought, j: usize) ->
     is_alike(area, p + w + w + w, w, sought)
 }
 
-// A row from row j on, below which none holds what is sought, four rows at a time.
+// A row from row `from` on, below which none holds what is sought, four rows at a time.
 pub fn skip_rows(area: &[i64], table: TableRows, sought: Sought, from: usize) -> usize
     requires { ⌜ Standing (now area) table × ((from ≤ table .count) × ((sought .c < table .width) × (sought .d < table .width))) ⌝ }
-    ensures { λ x. ⌜ Skipped (now (area .entry)) table sought from x ⌝ }
+    ensures { λ x. ⌜ Skipped (alike sought) (now (area .entry)) table from x ⌝ }
 {
     let start = table.start;
     let w = table.width;
@@ -89,4 +97,37 @@ pub fn skip_rows(area: &[i64], table: TableRows, sought: Sought, from: usize) ->
         j += 4;
     }
     j
+}
+
+// ---- keys of one column
+
+// Whether word c is v in one of four rows from row j on.
+fn four_equal(area: &[i64], start: usize, w: usize, c: usize, v: i64, j: usize) -> bool
+    requires { ⌜ (start + (j + 4) * w ≤ length (now area)) × (c < w) ⌝ }
+    ensures { λ x. ⌜ x ≡ oneOfFour (hasWord c v) (now (area .entry)) start w j ⌝ }
+{
+    let p = start + j * w;
+    let first = has_word(area, p, w, c, v);
+    let second = has_word(area, p + w, w, c, v);
+    let third = has_word(area, p + w + w, w, c, v);
+    let fourth = has_word(area, p + w + w + w, w, c, v);
+    first | (second | (third | fourth))
+}
+
+// The same as `skip_rows`, by the first word alone: for a key of one column, whose second word is the first again.
+pub fn skip_column(area: &[i64], table: TableRows, sought: Sought, from: usize) -> usize
+    requires { ⌜ Standing (now area) table × ((from ≤ table .count) × (sought .c < table .width)) ⌝ }
+    ensures { λ x. ⌜ Skipped (alike sought) (now (area .entry)) table from x ⌝ }
+{
+    let start = table.start;
+    let w = table.width;
+    let rows = table.count;
+    let mut i = from;
+    while 4 <= rows - i {
+        if four_equal(area, start, w, sought.c, sought.v, i) {
+            return i;
+        }
+        i += 4;
+    }
+    i
 }

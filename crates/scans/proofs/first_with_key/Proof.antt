@@ -1,109 +1,33 @@
-use mathlib.Core.Path.{_≡_}
-use mathlib.Core.Bool.{false}
-use Prim.Native.Nat.{ℕ, _-_, _<_, _≤_}
-use native.Mathlib.Omega.{arith}
+use mathlib.Core.Path.{sym, subst}
+use Prim.Native.Nat.{ℕ}
 use lib.ListN.{take}
+use Rattle.schema.specs.Bounds.{Columns}
 use Rattle.rows.specs.Standing.{rowsIn}
-use Rattle.rows.proofs.CellLaws.{widen}
-use Rattle.rows.proofs.TableLaws.{row-at}
 use Rattle.skips.specs.WithKey.{withKeyAt}
-use Rattle.skips.proofs.SkipLaws.{sought-within, passed}
-use Rattle.scans.proofs.FirstLaws.{tested, none-more, first-stop, first-none}
+use Rattle.scans.specs.FirstFrom.{FirstFrom}
+use borrow.Author.Needs.{needs}
 use Rattle.scans.proofs.first_with_key.Statement.{statement}
 use Rattle.scans.proofs.first_with_key.Tie as tie
 
-abbrev Inv-loop : tie.InvT-loop
-Inv-loop area table image n cs ds from start w rows sought j₀ j = (from ≤ j) × ((i : ℕ) → from ≤ i → i < j → withKeyAt (take n cs) (take n ds) image (rowsIn area table) i ≡ false)
-
-abbrev μ-loop : tie.MeasureT-loop
-μ-loop area table image n cs ds from start w rows sought j₀ j = rows - j
-
-sought-of-requires : tie.Need-sought-of-requires Inv-loop μ-loop
-sought-of-requires c κs =
-    let s = c in
-    (s .pre .1 .0, (widen (s .pre .0 .0 .narrow) (s .pre .1 .1 .0), s .pre .1 .1 .1))
-
-skip-rows-requires : tie.Need-skip-rows-requires Inv-loop μ-loop
-skip-rows-requires c κs =
+first-in-column-requires : tie.Need-first-in-column-requires
+first-in-column-requires c κs =
     let s = c .before in
-    (s .pre .0 .0, (omega (arith, s .pre .0 .1), sought-within (s .args .n) (s .args .cs .now) (s .args .ds .now) (s .args .image .now) (s .pre .1 .0) (s .pre .1 .1 .0) (c .sought-of .ensures)))
+    let a = s .args in
+    let one = c .if1 .taken in
+    (s .pre .0, (subst (λ (n : ℕ). Columns (a .table .width) n (a .cs .now)) one (s .pre .1 .1 .0), subst (λ (n : ℕ). Columns 9 n (a .ds .now)) one (s .pre .1 .1 .1)))
 
-loop-holds : tie.Need-loop-holds Inv-loop μ-loop
-loop-holds c =
-    let sought-of = c .before .sought-of in
-    let s = c .before .before in
-    (c .skip-rows .ensures .low, passed (s .args .area .now) (s .args .table) (s .args .n) (s .args .cs .now) (s .args .ds .now) (s .args .image .now) (s .pre .1 .0) (s .pre .1 .1 .0) (s .pre .1 .1 .1) (sought-of .ensures) (c .skip-rows .ensures))
-
-mul-has-key : tie.Need-mul-has-key Inv-loop μ-loop
-mul-has-key c =
-    let s = c .before .before .before .before in
-    let h = row-at (s .args .area .now) (s .args .table) (c .before .loop .j) (c .loop-test .taken) (s .pre .0 .0) in
-    omega (arith, h .within)
-
-add-has-key : tie.Need-add-has-key Inv-loop μ-loop
-add-has-key c =
-    let s = c .before .before .before .before in
-    let h = row-at (s .args .area .now) (s .args .table) (c .before .loop .j) (c .loop-test .taken) (s .pre .0 .0) in
-    omega (arith, h .within)
-
-has-key-requires : tie.Need-has-key-requires Inv-loop μ-loop
-has-key-requires c κs =
-    let s = c .before .before .before .before in
-    (row-at (s .args .area .now) (s .args .table) (c .before .loop .j) (c .loop-test .taken) (s .pre .0 .0), s .pre .1 .1)
-
-returns : tie.Need-returns Inv-loop μ-loop
+returns : tie.Need-returns
 returns c =
-    let s = c .before .before .before .before .before .before in
-    let l = c .before .before .before .loop in
-    let loop-test = c .before .before .loop-test in
-    let hit = tested (s .args .area .now) (s .args .table) _ _ (s .args .image .now) (l .j) (loop-test .taken) (c .before .has-key .ensures) (c .if1 .taken) in
-    first-stop (l .j) (l .inv .0) (loop-test .taken) (l .inv .1) hit
+    let a = c .before .before .args in
+    subst
+    (λ (n : ℕ). FirstFrom (withKeyAt (take n (a .cs .now)) (take n (a .ds .now)) (a .image .now) (rowsIn (a .area .now) (a .table))) (a .table .count) (a .from) (c .first-in-column .result))
+    (sym (c .before .if1 .taken)) (c .first-in-column .ensures)
 
-add-skip-rows : tie.Need-add-skip-rows Inv-loop μ-loop
-add-skip-rows c = omega (arith, c .before .before .before .before .before .before .pre .0 .0 .few, c .before .before .loop-test .taken)
+first-in-columns-requires : tie.Need-first-in-columns-requires
+first-in-columns-requires c κs = search needs
 
-skip-rows-requires-2 : tie.Need-skip-rows-requires-2 Inv-loop μ-loop
-skip-rows-requires-2 c κs =
-    let sought-of = c .before .before .before .before .before .sought-of in
-    let loop-test = c .before .before .loop-test in
-    let s = c .before .before .before .before .before .before in
-    (s .pre .0 .0, (omega (arith, loop-test .taken), sought-within (s .args .n) (s .args .cs .now) (s .args .ds .now) (s .args .image .now) (s .pre .1 .0) (s .pre .1 .1 .0) (sought-of .ensures)))
-
-loop-less : tie.Need-loop-less Inv-loop μ-loop
-loop-less c = omega (arith, c .skip-rows2 .ensures .low, c .before .before .before .loop-test .taken)
-
-loop-again : tie.Need-loop-again Inv-loop μ-loop
-loop-again c =
-    let sought-of = c .before .before .before .before .before .before .sought-of in
-    let l = c .before .before .before .before .loop in
-    let loop-test = c .before .before .before .loop-test in
-    let has-key = c .before .before .has-key in
-    let s = c .before .before .before .before .before .before .before in
-    let miss = tested (s .args .area .now) (s .args .table) _ _ (s .args .image .now) (l .j) (loop-test .taken) (has-key .ensures) (c .before .if1 .left) in
-    let past = passed (s .args .area .now) (s .args .table) (s .args .n) (s .args .cs .now) (s .args .ds .now) (s .args .image .now) (s .pre .1 .0) (s .pre .1 .1 .0) (s .pre .1 .1 .1) (sought-of .ensures) (c .skip-rows2 .ensures) in
-    (omega (arith, l .inv .0, c .skip-rows2 .ensures .low), none-more (l .j) _ (l .inv .1) miss past)
-
-returns-2 : tie.Need-returns-2 Inv-loop μ-loop
-returns-2 c =
-    let s = c .before .before .before .before in
-    let l = c .before .loop in
-    first-none (l .j) (s .pre .0 .1) (omega (arith, c .loop-test .left)) (l .inv .1)
+returns-2 : tie.Need-returns-2
+returns-2 c = search needs
 
 pub first-with-key-spec : {M : Type 1} → statement M
-first-with-key-spec =
-    tie.close
-    (tie.spec
-    Inv-loop
-    μ-loop
-    sought-of-requires
-    skip-rows-requires
-    loop-holds
-    mul-has-key
-    add-has-key
-    has-key-requires
-    returns
-    add-skip-rows
-    skip-rows-requires-2
-    loop-less
-    loop-again
-    returns-2)
+first-with-key-spec = tie.close (tie.spec first-in-column-requires returns first-in-columns-requires returns-2)

@@ -2,19 +2,19 @@ use mathlib.Core.Path.{sym, _∙_}
 use Prim.Native.Nat.{_-_}
 use native.Mathlib.Omega.{arith}
 use Rattle.rows.proofs.TableLaws.{rowsFrom}
-use Rattle.skips.specs.Skipped.{Skipped}
+use Rattle.skips.specs.Skipped.{alike, Skipped}
 use Rattle.skips.proofs.SkipLaws.{skip-start, skip-four, rows-fit}
 use Rattle.skips.proofs.skip_rows.Statement.{statement}
 use Rattle.skips.proofs.skip_rows.Tie as tie
 
 abbrev Inv-loop : tie.InvT-loop
-Inv-loop area sought from start w rows j₀ j = Skipped area (rowsFrom start w rows) sought from j
+Inv-loop area sought from start w rows j₀ j = Skipped (alike sought) area (rowsFrom start w rows) from j
 
 abbrev μ-loop : tie.MeasureT-loop
 μ-loop area sought from start w rows j₀ j = rows - j
 
 loop-holds : tie.Need-loop-holds Inv-loop μ-loop
-loop-holds c = let s = c in skip-start (s .args .area .now) (s .args .table) (s .args .sought) (s .args .from) (s .pre .1 .0)
+loop-holds c = skip-start (alike (c .args .sought)) (c .args .area .now) (c .args .table) (c .args .from) (c .pre .1 .0)
 
 sub-loop : tie.Need-sub-loop Inv-loop μ-loop
 sub-loop c = c .loop .inv .high
@@ -38,7 +38,7 @@ loop-again : tie.Need-loop-again Inv-loop μ-loop
 loop-again c =
     let s = c .before .before .before .before in
     let l = c .before .before .before .loop in
-    skip-four (s .args .area .now) (s .args .table) (s .args .sought) (s .args .from) (l .j) (l .inv) (c .before .before .loop-test .taken) (sym (c .before .four-alike .ensures) ∙ c .if1 .left)
+    skip-four (alike (s .args .sought)) (s .args .area .now) (s .args .table) (s .args .from) (l .j) (l .inv) (c .before .before .loop-test .taken) (sym (c .before .four-alike .ensures) ∙ c .if1 .left)
 
 returns-2 : tie.Need-returns-2 Inv-loop μ-loop
 returns-2 c = c .before .loop .inv
