@@ -16,7 +16,8 @@ use Rattle.rules.specs.Lists.{𝟘}
 use Rattle.rules.specs.Values.{natOf, natural, allZero}
 use Rattle.rules.specs.Calls.{Call, malformed, insert, update, delete, begin, savepoint, release, rollbackTo, rollback, commit, formedIf, parsed, parse, inTable, rowFits, allowed}
 use Rattle.bridge.proofs.UndoWords.{in-tables}
-use Rattle.call_form.specs.Requests.{judged, namesRow, givesRow, namesLevel}
+use Rattle.call_form.specs.declared.Request.the-variants.{DeleteWhere, UpdateWhere}
+use Rattle.call_form.specs.Requests.{callOf, judged, namesRow, givesRow, namesLevel, naturalPlace}
 
 -- a number that is not the least it can be
 pub above : (n k : ℕ) → n ≤ k → (k ≡ n → ⊥) → suc n ≤ k
@@ -93,6 +94,15 @@ module _ (s : Schema) where
     unfolding parsed allowed namesLevel
     rollback-to-is = judged-if (natural (getD ws 1 𝟘) && allZero (drop 2 ws)) (rollbackTo a)
 
+    -- the calls of kinds 10 and 11
+    pub delete-where-is : judged s (parsed 10 ws) ≡ formedIf (naturalPlace ws && allZero (drop 5 ws) && allowed s (callOf (DeleteWhere a b) ws)) (callOf (DeleteWhere a b) ws)
+    unfolding parsed naturalPlace callOf
+    delete-where-is = judged-if (naturalPlace ws && allZero (drop 5 ws)) (callOf (DeleteWhere a b) ws)
+
+    pub update-where-is : judged s (parsed 11 ws) ≡ formedIf (naturalPlace ws && natural (getD ws 5 𝟘) && allZero (drop 7 ws) && allowed s (callOf (UpdateWhere a b) ws)) (callOf (UpdateWhere a b) ws)
+    unfolding parsed naturalPlace callOf
+    update-where-is = judged-if (naturalPlace ws && natural (getD ws 5 𝟘) && allZero (drop 7 ws)) (callOf (UpdateWhere a b) ws)
+
     bare-judged : (c : Call) → allowed s c ≡ true → judged s (formedIf (allZero (drop 1 ws)) c) ≡ formedIf (allZero (drop 1 ws)) c
     unfolding formedIf
     bare-judged c e = judged-if (allZero (drop 1 ws)) c ∙ ap (λ t. formedIf t c) (and-on (allZero (drop 1 ws)) e)
@@ -129,14 +139,14 @@ module _ (s : Schema) where
     unfolding parsed
     zero-kind = refl
 
-    high-kind : (k : ℕ) → 10 ≤ k → parsed k ws ≡ malformed
+    high-kind : (k : ℕ) → 12 ≤ k → parsed k ws ≡ malformed
     unfolding parsed
     high-kind k h =
-        let e : k ≡ suc (suc (suc (suc (suc (suc (suc (suc (suc (suc (k - 10)))))))))) = omega arith in
+        let e : k ≡ suc (suc (suc (suc (suc (suc (suc (suc (suc (suc (suc (suc (k - 12)))))))))))) = omega arith in
         ap (λ n. parsed n ws) e
 
-    -- a kind that is none of nine
-    pub other-is : (k : ℕ) → (0 < k → 10 ≤ k) → malformed ≡ judged s (parsed k ws)
+    -- a kind that is none of eleven
+    pub other-is : (k : ℕ) → (0 < k → 12 ≤ k) → malformed ≡ judged s (parsed k ws)
     other-is zero h = sym (ap (judged s) zero-kind ∙ judged-malformed)
     other-is (suc k) h = sym (ap (judged s) (high-kind (suc k) (h (omega arith))) ∙ judged-malformed)
 

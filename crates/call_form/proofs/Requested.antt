@@ -3,30 +3,47 @@
 use mathlib.Core.Path.{_≡_, refl, sym, _∙_, ap, ap₂}
 use mathlib.Core.Bool.{Bool, true, false, _&&_, false≢true}
 use mathlib.Core.List.{List, [], _∷_}
-use Prim.Native.Nat.{ℕ, _+_, _^_, _<_}
+use Prim.Native.Nat.{ℕ, _+_, _^_, _≤_, _<_}
 use native.Mathlib.Nat.{mod-eq-of-lt}
 use native.Mathlib.Omega.{arith}
-use borrow.Author.Tests.{leb-true, ltb-true, eqb-true}
+use borrow.Author.Tests.{leb-true, ltb-true, ltb-false, eqb-true}
 use lib.Dec.{leb, ltb, eqb}
 use lib.IntN.{ℤ, pos}
-use lib.ListN.{length, getD, drop}
+use lib.ListN.{length, getD, drop, List·getD-eq-default}
 use Rattle.schema.specs.Bounds.{Within}
-use Rattle.schema.specs.Records.{Table, Schema, tableOf}
+use Rattle.schema.specs.Records.{Table, Schema, noTable, tableOf}
 use Rattle.schema.proofs.RangeLaws.{and-left, and-right}
 use Rattle.schema.proofs.Formed.{and3}
 use Rattle.rules.specs.Lists.{𝟘}
 use Rattle.rules.specs.Values.{natOf, natural, sameValue, sameValues, allZero}
 use Rattle.rules.specs.Rows.{held, liveImage}
-use Rattle.rules.specs.Calls.{Call, malformed, insert, update, delete, begin, savepoint, release, rollbackTo, rollback, commit, formedIf, parsed, parse, inTable, rowFits, levelNumber, allowed}
+use Rattle.rules.specs.Calls.{Call, malformed, insert, update, delete, begin, savepoint, release, rollbackTo, rollback, commit, deleteWhere, updateWhere, formedIf, parsed, parse, inTable, rowFits, inColumns, seeksNull, setsNull, valueFits, levelNumber, allowed}
 use Rattle.bridge.proofs.Bits.{same-eq}
 use Rattle.bridge.proofs.UndoWords.{in-tables}
-use Rattle.call_form.specs.declared.Request.the-variants.{Malformed, Insert, Update, Delete, Release, RollbackTo}
+use Rattle.call_form.specs.declared.Request.the-variants.{Malformed, Insert, Update, Delete, Release, RollbackTo, DeleteWhere, UpdateWhere}
 use Rattle.call_form.specs.Requests.{callOf, judged}
+
+-- a table past the last has no column
+pub no-column : (s : Schema) (t : ℕ) → length (s .tables) ≤ t → tableOf s t .columns ≡ 0
+no-column s t h = ap (λ (x : Table). x .columns) (List·getD-eq-default (s .tables) noTable h)
+
+column-table : (s : Schema) (t c : ℕ) → c < tableOf s t .columns → t < length (s .tables)
+column-table s t c h = by (ltb t (length (s .tables))) refl
+  where
+    by : (b : Bool) → ltb t (length (s .tables)) ≡ b → t < length (s .tables)
+    by true e = ltb-true t (length (s .tables)) e
+    by false e = absurd (omega (arith, h, no-column s t (ltb-false t (length (s .tables)) e)))
 
 -- a row request: its row is in its table, and the call has twelve words
 pub record RowRequest (s : Schema) (ws : List ℤ) (t r : ℕ) : Type 0 where
   pub table : t < length (s .tables)
   pub row : r < tableOf s t .rows
+  pub size : length ws ≡ 12
+
+-- a request for the rows found: the column that is searched is in its table, and the call has twelve words
+pub record FoundRequest (s : Schema) (ws : List ℤ) (t c : ℕ) : Type 0 where
+  pub table : t < length (s .tables)
+  pub column : c < tableOf s t .columns
   pub size : length ws ≡ 12
 
 -- an insertion's or an update's mask and values: no bit past the columns, and they are the image that is written
@@ -46,6 +63,8 @@ isCall (release a) = true
 isCall (rollbackTo a) = true
 isCall rollback = true
 isCall commit = true
+isCall (deleteWhere t c m v) = true
+isCall (updateWhere t c m v d y) = true
 
 -- refusal 4 does not refuse it, and it is the call that was read
 pub record Read (s : Schema) (ws : List ℤ) (c : Call) : Type 0 where
@@ -131,6 +150,42 @@ module _ (s : Schema) (ws : List ℤ) where
     pub delete-row : callOf (Delete t r) ws ≡ judged s (parse ws) → RowRequest s ws t r
     unfolding callOf isCall allowed
     delete-row e = row-is (delete t r) t r refl e (λ h. h)
+
+  column-is : (t c : ℕ) → inColumns s t c ≡ true → c < tableOf s t .columns
+  unfolding inColumns
+  column-is t c h = ltb-true c (tableOf s t .columns) h
+
+  found-is : (x : Call) (t c : ℕ) → isCall x ≡ true → x ≡ judged s (parse ws) → (allowed s x ≡ true → inColumns s t c ≡ true) → FoundRequest s ws t c
+  found-is x t c h e f =
+      let q : Read s ws x = read-is x h e in
+      let l : c < tableOf s t .columns = column-is t c (f (read-allowed q)) in
+      record { table = column-table s t c l; column = l; size = size-is x h (q .parsed-is) }
+
+  module _ (t c : ℕ) where
+    pub delete-found : callOf (DeleteWhere t c) ws ≡ judged s (parse ws) → FoundRequest s ws t c
+    unfolding callOf isCall allowed
+    delete-found e =
+        let v : ℤ = getD ws 4 𝟘 in
+        let m : ℕ = natOf (getD ws 3 𝟘) in
+        found-is (deleteWhere t c m v) t c refl e (λ h. and3 (inColumns s t c) (ltb m 2) (valueFits (seeksNull m) v) h .0)
+
+    -- what refusal 4 lets pass of an update of the rows found
+    update-passed : callOf (UpdateWhere t c) ws ≡ judged s (parse ws) → (inColumns s t c ≡ true) × (inColumns s t (natOf (getD ws 5 𝟘)) ≡ true)
+    unfolding callOf isCall allowed
+    update-passed e =
+        let m : ℕ = natOf (getD ws 3 𝟘) in
+        let x : Call = updateWhere t c m (getD ws 4 𝟘) (natOf (getD ws 5 𝟘)) (getD ws 6 𝟘) in
+        let columns : Bool = inColumns s t c && inColumns s t (natOf (getD ws 5 𝟘)) in
+        let p = and-left (columns && ltb m 4 && valueFits (seeksNull m) (getD ws 4 𝟘)) (valueFits (setsNull m) (getD ws 6 𝟘)) (read-allowed (read-is x refl e)) in
+        let q : columns ≡ true = and3 columns (ltb m 4) (valueFits (seeksNull m) (getD ws 4 𝟘)) p .0 in
+        (and-left (inColumns s t c) _ q, and-right (inColumns s t c) _ q)
+
+    pub update-found : callOf (UpdateWhere t c) ws ≡ judged s (parse ws) → FoundRequest s ws t c
+    unfolding callOf isCall
+    update-found e = found-is (updateWhere t c (natOf (getD ws 3 𝟘)) (getD ws 4 𝟘) (natOf (getD ws 5 𝟘)) (getD ws 6 𝟘)) t c refl e (λ h. update-passed e .0)
+
+    pub update-set : callOf (UpdateWhere t c) ws ≡ judged s (parse ws) → natOf (getD ws 5 𝟘) < tableOf s t .columns
+    update-set e = column-is t (natOf (getD ws 5 𝟘)) (update-passed e .1)
 
   level-is : (a : ℕ) → levelNumber a ≡ true → Within 1 9 a
   unfolding levelNumber

@@ -17,8 +17,8 @@ use Rattle.schema.specs.Bytes.{bit}
 use Rattle.rules.specs.Lists.{𝟘}
 use Rattle.rules.specs.Values.{sameValue, sameValues}
 use Rattle.rules.specs.Rows.{held}
+use Rattle.rules.specs.Calls.{valueFits}
 use Rattle.bridge.proofs.Bits.{same-refl}
-use Rattle.call_form.specs.Requests.{valueFits}
 
 -- ---- a mask
 

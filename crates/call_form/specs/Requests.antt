@@ -1,7 +1,7 @@
 -- Refusal 4: the call that a request is, and what the call's words must give.
 -- Assumes nothing.
 use mathlib.Core.Path.{_≡_}
-use mathlib.Core.Bool.{Bool, true, false, _&&_}
+use mathlib.Core.Bool.{Bool, _&&_}
 use mathlib.Core.List.{List}
 use Prim.Native.Nat.{ℕ}
 use lib.IntN.{ℤ}
@@ -10,12 +10,12 @@ use Rattle.schema.specs.declared.SchemaAnswer.the-variants.{Accepted}
 use Rattle.schema.specs.Records.{Schema, tableOf}
 use Rattle.schema.specs.Check.{checkSchema}
 use Rattle.rules.specs.Lists.{𝟘}
-use Rattle.rules.specs.Values.{natOf, natural, sameValue, allZero}
-use Rattle.rules.specs.Calls.{Call, malformed, insert, update, delete, begin, savepoint, release, rollbackTo, rollback, commit, formedIf, inTable, rowFits, levelNumber, allowed}
+use Rattle.rules.specs.Values.{natOf, natural, allZero}
+use Rattle.rules.specs.Calls.{Call, malformed, insert, update, delete, begin, savepoint, release, rollbackTo, rollback, commit, deleteWhere, updateWhere, formedIf, inTable, rowFits, levelNumber, allowed}
 use Rattle.call_form.specs.declared.Request.{Request}
-use Rattle.call_form.specs.declared.Request.the-variants.{Malformed, Insert, Update, Delete, Begin, Savepoint, Release, RollbackTo, Rollback, Commit}
+use Rattle.call_form.specs.declared.Request.the-variants.{Malformed, Insert, Update, Delete, Begin, Savepoint, Release, RollbackTo, Rollback, Commit, DeleteWhere, UpdateWhere}
 
--- the call that a request is, with the mask and the values of the call's words
+-- the call that a request is, with masks and values of the call's words
 unfoldable pub callOf : Request → List ℤ → Call
 callOf Malformed ws = malformed
 callOf (Insert t r) ws = insert t r (natOf (getD ws 3 𝟘)) (drop 4 ws)
@@ -27,6 +27,8 @@ callOf (Release a) ws = release a
 callOf (RollbackTo a) ws = rollbackTo a
 callOf Rollback ws = rollback
 callOf Commit ws = commit
+callOf (DeleteWhere t c) ws = deleteWhere t c (natOf (getD ws 3 𝟘)) (getD ws 4 𝟘)
+callOf (UpdateWhere t c) ws = updateWhere t c (natOf (getD ws 3 𝟘)) (getD ws 4 𝟘) (natOf (getD ws 5 𝟘)) (getD ws 6 𝟘)
 
 -- the call, where refusal 4 does not refuse it
 unfoldable pub judged : Schema → Call → Call
@@ -49,7 +51,6 @@ givesRow s ws = namesRow s ws && natural (getD ws 3 𝟘) && rowFits (tableOf s 
 unfoldable pub namesLevel : List ℤ → Bool
 namesLevel ws = natural (getD ws 1 𝟘) && allZero (drop 2 ws) && levelNumber (natOf (getD ws 1 𝟘))
 
--- 0, where the column is NULL
-unfoldable pub valueFits : Bool → ℤ → Bool
-valueFits true v = sameValue 𝟘 v
-valueFits false v = true
+-- words 1, 2 and 3 are not negative
+unfoldable pub naturalPlace : List ℤ → Bool
+naturalPlace ws = natural (getD ws 1 𝟘) && natural (getD ws 2 𝟘) && natural (getD ws 3 𝟘)

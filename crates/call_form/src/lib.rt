@@ -10,11 +10,11 @@ ghost use Rattle.schema.specs.Fields.{schemaOf};
 ghost use Rattle.schema.specs.Check.{checkSchema};
 ghost use Rattle.rules.specs.Values.{natOf, allZero, sameValues};
 ghost use Rattle.rules.specs.Rows.{held};
-ghost use Rattle.rules.specs.Calls.{release, rollbackTo, formedIf, parsed, parse, rowFits, levelNumber};
-ghost use Rattle.call_form.specs.Requests.{callOf, judged, TwelveWords, namesRow, givesRow, namesLevel, valueFits};
+ghost use Rattle.rules.specs.Calls.{release, rollbackTo, formedIf, parsed, parse, rowFits, inColumns, valueFits, levelNumber, allowed};
+ghost use Rattle.call_form.specs.Requests.{callOf, judged, TwelveWords, namesRow, givesRow, namesLevel, naturalPlace};
 use schema::SchemaAnswer;
 
-// What a call asks for: tables, rows and levels by number; the mask and the values of a row stay in the call's words.
+// What a call asks for: tables, rows, columns and levels by number; masks and values stay in the call's words.
 pub enum Request {
     // Refusal 4.
     Malformed,
@@ -27,6 +27,9 @@ pub enum Request {
     RollbackTo(usize),
     Rollback,
     Commit,
+    // A table and the column that is searched.
+    DeleteWhere(usize, usize),
+    UpdateWhere(usize, usize),
 }
 
 // ---- the words of a call
@@ -39,13 +42,13 @@ fn is_mask(m: usize, columns: usize) -> bool
     m >> columns == 0
 }
 
-// Whether the value of column i is 0 where the mask says NULL.
-fn value_fits(call: &[i64], m: usize, i: usize) -> bool
-    requires { ⌜ (length (now call) ≡ 12) × (i < 8) ⌝ }
-    ensures { λ r. ⌜ r ≡ valueFits (bit i m) (getD (now (call .entry)) (4 + i) (pos 0)) ⌝ }
+// Whether word k is 0 where bit i of the mask says NULL.
+fn value_fits(call: &[i64], m: usize, i: usize, k: usize) -> bool
+    requires { ⌜ (length (now call) ≡ 12) × ((i < 8) × (k < 12)) ⌝ }
+    ensures { λ r. ⌜ r ≡ valueFits (bit i m) (getD (now (call .entry)) k (pos 0)) ⌝ }
 {
     if numbers::bit_of(i, m) {
-        return words::is_zero_at(call, 4 + i);
+        return words::is_zero_at(call, k);
     }
     true
 }
@@ -57,7 +60,7 @@ fn values_fit(call: &[i64], m: usize) -> bool
 {
     let mut i = 0;
     while i < 8 {
-        if !value_fits(call, m, i) {
+        if !value_fits(call, m, i, 4 + i) {
             return false;
         }
         i += 1;
@@ -97,6 +100,48 @@ fn gives_row(schema: &[u8], call: &[i64]) -> bool
     }
     let t = words::nat_at(call, 1);
     words::is_natural_at(call, 3) & row_fits(schema, call, t)
+}
+
+// Whether words 1, 2 and 3 are not negative.
+fn is_natural_place(call: &[i64]) -> bool
+    requires { ⌜ length (now call) ≡ 12 ⌝ }
+    ensures { λ r. ⌜ r ≡ naturalPlace (now (call .entry)) ⌝ }
+{
+    words::is_natural_at(call, 1) & words::is_natural_at(call, 2) & words::is_natural_at(call, 3)
+}
+
+// Whether there is a table t that has a column c.
+fn is_in_columns(schema: &[u8], t: usize, c: usize) -> bool
+    requires { ⌜ checkSchema (now schema) ≡ SchemaAnswer.Accepted ⌝ }
+    ensures { λ r. ⌜ r ≡ inColumns (schemaOf (now (schema .entry))) t c ⌝ }
+{
+    if fields::table_count(schema) <= t {
+        return false;
+    }
+    c < fields::columns(schema, t)
+}
+
+// Whether column c of table t can be searched, by words 3 and 4.
+fn delete_where_fits(schema: &[u8], call: &[i64], t: usize, c: usize) -> bool
+    requires { ⌜ TwelveWords (now schema) (now call) ⌝ }
+    ensures { λ r. ⌜ r ≡ allowed (schemaOf (now (schema .entry))) (callOf (Request.DeleteWhere t c) (now (call .entry))) ⌝ }
+{
+    let m = words::nat_at(call, 3);
+    is_in_columns(schema, t, c) & (m < 2) & value_fits(call, m, 0, 4)
+}
+
+// Whether column c of table t can be searched, by words 3 and 4, and another be set, by words 3, 5 and 6.
+fn update_where_fits(schema: &[u8], call: &[i64], t: usize, c: usize) -> bool
+    requires { ⌜ TwelveWords (now schema) (now call) ⌝ }
+    ensures { λ r. ⌜ r ≡ allowed (schemaOf (now (schema .entry))) (callOf (Request.UpdateWhere t c) (now (call .entry))) ⌝ }
+{
+    let m = words::nat_at(call, 3);
+    let d = words::nat_at(call, 5);
+    is_in_columns(schema, t, c)
+        & is_in_columns(schema, t, d)
+        & (m < 4)
+        & value_fits(call, m, 0, 4)
+        & value_fits(call, m, 1, 6)
 }
 
 // Whether a level's number is from 1 to 9.
@@ -172,6 +217,37 @@ fn read_rollback_to(call: &[i64]) -> Request
     Request::RollbackTo(words::nat_at(call, 1))
 }
 
+// Kind 10: delete every row found.
+fn read_delete_where(schema: &[u8], call: &[i64]) -> Request
+    requires { ⌜ TwelveWords (now schema) (now call) ⌝ }
+    ensures { λ r. ⌜ callOf r (now (call .entry)) ≡ judged (schemaOf (now (schema .entry))) (parsed 10 (now (call .entry))) ⌝ }
+{
+    let t = words::nat_at(call, 1);
+    let c = words::nat_at(call, 2);
+    if !(is_natural_place(call)
+        & words::all_zero_from(call, 5)
+        & delete_where_fits(schema, call, t, c)) {
+        return Request::Malformed;
+    }
+    Request::DeleteWhere(t, c)
+}
+
+// Kind 11: update every row found.
+fn read_update_where(schema: &[u8], call: &[i64]) -> Request
+    requires { ⌜ TwelveWords (now schema) (now call) ⌝ }
+    ensures { λ r. ⌜ callOf r (now (call .entry)) ≡ judged (schemaOf (now (schema .entry))) (parsed 11 (now (call .entry))) ⌝ }
+{
+    let t = words::nat_at(call, 1);
+    let c = words::nat_at(call, 2);
+    if !(is_natural_place(call)
+        & words::is_natural_at(call, 5)
+        & words::all_zero_from(call, 7)
+        & update_where_fits(schema, call, t, c)) {
+        return Request::Malformed;
+    }
+    Request::UpdateWhere(t, c)
+}
+
 // Kinds 4, 5, 8 and 9: the words past the kind are 0.
 fn read_bare(call: &[i64], request: Request) -> Request
     ensures { λ r. ⌜ callOf r (now (call .entry)) ≡ formedIf (allZero (drop 1 (now (call .entry)))) (callOf request (now (call .entry))) ⌝ }
@@ -182,7 +258,7 @@ fn read_bare(call: &[i64], request: Request) -> Request
     request
 }
 
-// A call of a given kind; one that is none of nine is refused.
+// A call of a given kind; one that is none of eleven is refused.
 fn read_kind(schema: &[u8], call: &[i64], kind: usize) -> Request
     requires { ⌜ TwelveWords (now schema) (now call) ⌝ }
     ensures { λ r. ⌜ callOf r (now (call .entry)) ≡ judged (schemaOf (now (schema .entry))) (parsed kind (now (call .entry))) ⌝ }
@@ -197,6 +273,8 @@ fn read_kind(schema: &[u8], call: &[i64], kind: usize) -> Request
         7 => read_rollback_to(call),
         8 => read_bare(call, Request::Rollback),
         9 => read_bare(call, Request::Commit),
+        10 => read_delete_where(schema, call),
+        11 => read_update_where(schema, call),
         _ => Request::Malformed,
     }
 }

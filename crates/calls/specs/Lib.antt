@@ -1,1 +1,2 @@
 pub mod RowCall
+pub mod FoundCall

@@ -1,4 +1,4 @@
-// A call that was read and is not refused by 4 or 10: insert, update, delete, and the kinds that transactions has.
+// A call that was read and is not refused by 4 or 10: insert, update, delete, those of all rows found, and the kinds that transactions has.
 // `clean` says that every journal word past the records in use is known to be zero.
 ghost use mathlib.Core.Path.{_≡_};
 ghost use Prim.Native.Nat.{_<_};
@@ -16,7 +16,10 @@ ghost use Rattle.bridge.specs.Ready.{Sound, Placed};
 ghost use Rattle.area.specs.Spare.{Spare};
 ghost use Rattle.call_form.specs.Requests.{callOf, judged};
 ghost use Rattle.calls.specs.RowCall.{RowCall};
+ghost use Rattle.calls.specs.FoundCall.{cellOf, FoundCall};
 use call_form::Request;
+use found::Cell;
+use found::Given;
 use rules::Answer;
 use rules::Refusal;
 
@@ -66,6 +69,55 @@ fn delete(schema: &[u8], area: &mut [i64], t: usize, r: usize, clean: bool) -> A
     statements::change_row(schema, area, t, r, [0i64; 9], clean)
 }
 
+// Column c, with NULL by bit i of word 3, and the value of word k.
+fn cell_of(call: &[i64], c: usize, i: usize, k: usize) -> Cell
+    requires { ⌜ (length (now call) ≡ 12) × ((i < 8) × (k < 12)) ⌝ }
+    ensures { λ x. ⌜ x ≡ cellOf (now (call .entry)) c i k ⌝ }
+{
+    let m = words::nat_at(call, 3);
+    let null = numbers::bit_of(i, m);
+    let v = call[k];
+    Cell {
+        column: c,
+        null: null,
+        value: v,
+    }
+}
+
+// Kind 10: delete every row found.
+fn delete_where(
+    schema: &[u8],
+    area: &mut [i64],
+    call: &[i64],
+    t: usize,
+    c: usize,
+    clean: bool,
+) -> Answer
+    requires { ⌜ FoundCall (now schema) (now area) (now call) t c × Spare clean (schemaOf (now schema)) (now area) ⌝ }
+    ensures { λ x. ⌜ (x, now (area .exit)) ≡ onWords (act (schemaOf (now (schema .entry))) (Calls.deleteWhere t c (natOf (getD (now (call .entry)) 3 (pos 0))) (getD (now (call .entry)) 4 (pos 0))) (view (schemaOf (now (schema .entry))) (now (area .entry)))) ⌝ }
+{
+    let sought = cell_of(call, c, 0, 4);
+    statements::change_found(schema, area, t, sought, Given::Deleted, clean)
+}
+
+// Kind 11: update every row found.
+fn update_where(
+    schema: &[u8],
+    area: &mut [i64],
+    call: &[i64],
+    t: usize,
+    c: usize,
+    clean: bool,
+) -> Answer
+    requires { ⌜ FoundCall (now schema) (now area) (now call) t c × ((natOf (getD (now call) 5 (pos 0)) < tableOf (schemaOf (now schema)) t .columns) × Spare clean (schemaOf (now schema)) (now area)) ⌝ }
+    ensures { λ x. ⌜ (x, now (area .exit)) ≡ onWords (act (schemaOf (now (schema .entry))) (Calls.updateWhere t c (natOf (getD (now (call .entry)) 3 (pos 0))) (getD (now (call .entry)) 4 (pos 0)) (natOf (getD (now (call .entry)) 5 (pos 0))) (getD (now (call .entry)) 6 (pos 0))) (view (schemaOf (now (schema .entry))) (now (area .entry)))) ⌝ }
+{
+    let sought = cell_of(call, c, 0, 4);
+    let d = words::nat_at(call, 5);
+    let cell = cell_of(call, d, 1, 6);
+    statements::change_found(schema, area, t, sought, Given::Set(cell), clean)
+}
+
 // Carries out a call that was read.
 pub fn carry_out(
     schema: &[u8],
@@ -88,5 +140,7 @@ pub fn carry_out(
         Request::RollbackTo(a) => transactions::rollback_to(schema, area, a),
         Request::Rollback => transactions::rollback(schema, area, clean),
         Request::Commit => transactions::commit(schema, area, clean),
+        Request::DeleteWhere(t, c) => delete_where(schema, area, call, t, c, clean),
+        Request::UpdateWhere(t, c) => update_where(schema, area, call, t, c, clean),
     }
 }

@@ -88,6 +88,8 @@ module _ (s : Schema) (c : List ℤ) where
   malformed-is (request.RollbackTo a) e = cc
   malformed-is request.Rollback e = cc
   malformed-is request.Commit e = cc
+  malformed-is (request.DeleteWhere t k) e = cc
+  malformed-is (request.UpdateWhere t k) e = cc
 
   call-is : (r : Request) → isRefused r ≡ false → isCall (callOf r c) ≡ true
   unfolding isRefused isCall callOf
@@ -101,6 +103,8 @@ module _ (s : Schema) (c : List ℤ) where
   call-is (request.RollbackTo a) e = refl
   call-is request.Rollback e = refl
   call-is request.Commit e = refl
+  call-is (request.DeleteWhere t k) e = refl
+  call-is (request.UpdateWhere t k) e = refl
 
   module _ (r : Request) (e : callOf r c ≡ judged s (parse c)) where
     pub read-refused : isRefused r ≡ true → allowed s (parse c) ≡ false

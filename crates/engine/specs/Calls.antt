@@ -7,7 +7,7 @@ use lib.IntN.{ℤ}
 use Rattle.rules.specs.Engine.{callOn}
 use Rattle.answers.specs.AnswerWords.{answerWords}
 use Rattle.call_form.specs.declared.Request.{Request}
-use Rattle.call_form.specs.declared.Request.the-variants.{Malformed, Insert, Update, Delete, Begin, Savepoint, Release, RollbackTo, Rollback, Commit}
+use Rattle.call_form.specs.declared.Request.the-variants.{Malformed, Insert, Update, Delete, Begin, Savepoint, Release, RollbackTo, Rollback, Commit, DeleteWhere, UpdateWhere}
 
 -- refusal 4
 unfoldable pub isRefused : Request → Bool
@@ -21,6 +21,8 @@ isRefused (Release a) = false
 isRefused (RollbackTo a) = false
 isRefused Rollback = false
 isRefused Commit = false
+isRefused (DeleteWhere t c) = false
+isRefused (UpdateWhere t c) = false
 
 -- a call: its answer's words, and the area
 unfoldable pub callWords : List ℕ → List ℤ → List ℤ → List ℤ × List ℤ

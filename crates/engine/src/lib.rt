@@ -28,6 +28,8 @@ fn is_refused(request: Request) -> bool
         Request::RollbackTo(_) => false,
         Request::Rollback => false,
         Request::Commit => false,
+        Request::DeleteWhere(_, _) => false,
+        Request::UpdateWhere(_, _) => false,
     }
 }
 

@@ -1,6 +1,6 @@
 -- Images, word by word.
 -- Assumes nothing.
-use mathlib.Core.Path.{_≡_, sym, ap, ap₂, _∙_}
+use mathlib.Core.Path.{_≡_, refl, sym, ap, ap₂, _∙_}
 use mathlib.Core.Bool.{Bool, true, false}
 use mathlib.Core.List.{List, [], _∷_, _++_, append-assoc, append-nil}
 use Prim.Native.Nat.{ℕ, suc, _+_, _%_, _^_, _≤_, _<_}
@@ -18,6 +18,7 @@ use Rattle.rules.specs.Lists.{𝟘, padded}
 use Rattle.rules.specs.Values.{natOf}
 use Rattle.rules.specs.Rows.{Row, deletedImage, live, nullAt, valueAt, maskOf, held, liveImage, normal}
 use Rattle.rules.specs.Change.{flag, setCell, fillsNull, filler, refilled, childImage, cascaded}
+use Rattle.rules.specs.Found.{rowSet}
 use Rattle.rows.proofs.CellLaws.{columns-step, columns-end}
 
 -- ---- a live row
@@ -116,13 +117,22 @@ module _ (a : Action) (t : Table) (new : Row) (n : ℕ) (cs ps : List ℕ) where
   unfolding refilled
   fill-none i x h = ap (λ (l : List ℕ). refilled a t new l (drop i (take n ps)) x) (columns-end n cs i h)
 
-  pub fill-step : {u v : ℕ} → Columns u n cs → Columns v n ps → (i : ℕ) → i < n → (x : Row) (null : Bool) (z st : ℤ)
-      → null ≡ fillsNull a t new (getD cs i 0) (getD ps i 0) → z ≡ filler a t new (getD cs i 0) (getD ps i 0) → st ≡ pos (256 + flag (getD cs i 0) null (natOf (getD x 0 𝟘) % 256))
-      → refilled a t new (drop i (take n cs)) (drop i (take n ps)) x ≡ refilled a t new (drop (i + 1) (take n cs)) (drop (i + 1) (take n ps)) (set (set x 0 st) (getD cs i 0 + 1) z)
-  unfolding refilled setCell maskOf
-  fill-step kc kp i h x null z st e f g =
+  pub fill-step : {u v : ℕ} → Columns u n cs → Columns v n ps → (i : ℕ) → i < n → (x y : Row) (null : Bool) (z : ℤ)
+      → null ≡ fillsNull a t new (getD cs i 0) (getD ps i 0) → z ≡ filler a t new (getD cs i 0) (getD ps i 0) → y ≡ setCell (getD cs i 0) null z x
+      → refilled a t new (drop i (take n cs)) (drop i (take n ps)) x ≡ refilled a t new (drop (i + 1) (take n cs)) (drop (i + 1) (take n ps)) y
+  unfolding refilled
+  fill-step kc kp i h x y null z e f g =
       ap₂ (λ (k l : List ℕ). refilled a t new k l x) (columns-step n cs i h (omega (arith, kc .few, kc .size))) (columns-step n ps i h (omega (arith, kp .few, kp .size)))
-      ∙ rw (g, f, e, add-one (getD cs i 0))
+      ∙ rw (g, f, e) refl
+
+-- ---- a cell
+pub cell-set : (c : ℕ) (null : Bool) (v : ℤ) (x : Row) {z st : ℤ} → st ≡ pos (256 + flag c null (natOf (getD x 0 𝟘) % 256)) → z ≡ v → set (set x 0 st) (c + 1) z ≡ setCell c null v x
+unfolding setCell maskOf
+cell-set c null v x e f = rw (e, f, add-one c) refl
+
+pub row-set-is : (columns c : ℕ) (null : Bool) (v : ℤ) (x : Row) {u : ℤ} {y z : Row} → u ≡ v → y ≡ setCell c null u x → z ≡ normal columns y → z ≡ rowSet columns c null v x
+unfolding rowSet
+row-set-is columns c null v x d e f = f ∙ ap (normal columns) (e ∙ ap (λ (u : ℤ). setCell c null u x) d)
 
 -- ---- the child's image
 pub child-is : (a : Action) (s : Schema) (k : ForeignKey) (new x : Row) {t c : ℕ} {cs ps : List ℕ} → t ≡ k .child → cs ≡ k .childColumns → ps ≡ k .parentColumns → c ≡ tableOf s t .columns

@@ -1,4 +1,4 @@
-// The image that an action gives a child row, and that of a row inserted or updated.
+// The image that an action gives a child row, that of a row inserted or updated, and that of a row with one column set.
 ghost use mathlib.Core.Path.{_≡_};
 ghost use mathlib.Core.Bool.{true, false};
 ghost use mathlib.Core.List.{[], _∷_};
@@ -12,6 +12,7 @@ ghost use Rattle.schema.specs.Check.{checkSchema};
 ghost use Rattle.rules.specs.Values.{natOf};
 ghost use Rattle.rules.specs.Rows;
 ghost use Rattle.rules.specs.Change;
+ghost use Rattle.rules.specs.Found;
 ghost use Rattle.rows.specs.KeyColumns.{KeyColumns};
 use schema::Action;
 use schema::SchemaAnswer;
@@ -101,6 +102,27 @@ fn cell_state(c: usize, null: bool, state: i64) -> i64
     words::word_of(256 + flag(c, null, m))
 }
 
+// An image with another value, or NULL, in column c.
+fn set_cell(c: usize, null: bool, v: i64, image: [i64; 9]) -> [i64; 9]
+    requires { ⌜ c < 8 ⌝ }
+    ensures { λ x. ⌜ x ≡ Change.setCell c null v image ⌝ }
+{
+    let mut x = image;
+    let state = x[0];
+    x[0] = cell_state(c, null, state);
+    x[c + 1] = v;
+    x
+}
+
+// A row with another value, or NULL, in column c, as it is written in a table with so many columns.
+pub fn row_set(columns: usize, c: usize, null: bool, v: i64, image: [i64; 9]) -> [i64; 9]
+    requires { ⌜ (columns ≤ 8) × (c < 8) ⌝ }
+    ensures { λ x. ⌜ x ≡ Found.rowSet columns c null v image ⌝ }
+{
+    let x = set_cell(c, null, v, image);
+    normal(columns, x)
+}
+
 // Whether an action makes column c of child table t, with parent column p, NULL.
 fn fills_null(schema: &[u8], t: usize, action: Action, new: [i64; 9], c: usize, p: usize) -> bool
     requires { ⌜ ((checkSchema (now schema) ≡ SchemaAnswer.Accepted) × (t < length (schemaOf (now schema) .tables))) × ((c < 8) × (p < 8)) ⌝ }
@@ -150,9 +172,8 @@ fn refilled(
         let p = ps[i];
         let null = fills_null(schema, t, action, new, c, p);
         let v = filler(schema, t, action, new, c, p);
-        let state = x[0];
-        x[0] = cell_state(c, null, state);
-        x[c + 1] = v;
+        let y = set_cell(c, null, v, x);
+        x = y;
         i += 1;
     }
     x

@@ -49,7 +49,7 @@ value-in a p w c h =
 state-in : (a : List ℤ) (p w : ℕ) → 0 < w → getD (rowIn a p w) 0 𝟘 ≡ getD a p 𝟘
 state-in a p w h = word-in a p w 0 h ∙ ap (λ (i : ℕ). getD a i 𝟘) (add-zero p)
 
-null-in : (a : List ℤ) (p w c : ℕ) → 0 < w → nullAt (rowIn a p w) c ≡ bit c (natOf (getD a p 𝟘))
+pub null-in : (a : List ℤ) (p w c : ℕ) → 0 < w → nullAt (rowIn a p w) c ≡ bit c (natOf (getD a p 𝟘))
 unfolding nullAt
 null-in a p w c h = ap (λ (z : ℤ). bit c (natOf z)) (state-in a p w h)
 

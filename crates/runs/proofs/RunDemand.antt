@@ -18,7 +18,7 @@ use Rattle.rules.specs.declared.Answer.{Answer}
 use Rattle.rules.specs.declared.Answer.the-variants.{Done, Refused}
 use Rattle.rules.specs.Lists.{𝟘, flat, chunks}
 use Rattle.rules.specs.Values.{natOf, natural}
-use Rattle.rules.specs.Calls.{Call, malformed, insert, update, delete, begin, savepoint, release, rollbackTo, rollback, commit, formedIf, parsed, parse}
+use Rattle.rules.specs.Calls.{Call, malformed, insert, update, delete, begin, savepoint, release, rollbackTo, rollback, commit, deleteWhere, updateWhere, formedIf, parsed, parse}
 use Rattle.rules.specs.Step.{Logged}
 use Rattle.rules.specs.Area.{freshWords}
 use Rattle.rules.specs.Engine.{runOn}
@@ -44,6 +44,8 @@ place-twelve (release a) x k t h = all-append twelve (k .line) (x ∷ []) h (all
 place-twelve (rollbackTo a) x k t h = all-take twelve (getD (drop (length (k .pile) - a) (k .pile)) 0 0) (k .line) h
 place-twelve rollback x k t h = all-take twelve (pred (getD (k .pile) (pred (length (k .pile))) 0)) (k .line) h
 place-twelve commit x k t h = all-append twelve (k .line) (x ∷ []) h (all-cons twelve x [] t refl)
+place-twelve (deleteWhere a c m v) x k t h = all-append twelve (k .line) (x ∷ []) h (all-cons twelve x [] t refl)
+place-twelve (updateWhere a c m v d y) x k t h = all-append twelve (k .line) (x ∷ []) h (all-cons twelve x [] t refl)
 
 -- only calls of twelve words come into the line
 mark-twelve : (ws : List ℤ) (a : Answer) (k : Struck) → all twelve (k .line) ≡ true → all twelve (mark (parse ws) ws a k .line) ≡ true

@@ -29,7 +29,7 @@ use Rattle.rules.specs.Area.{words, view, onWords}
 use Rattle.bridge.specs.Fit.{workOf, Keeps, Holds}
 use Rattle.bridge.specs.Ready.{Ready, Sound, Undoable, resultOf}
 use Rattle.bridge.proofs.RowWords.{formed-fit, use-is}
-use Rattle.bridge.proofs.Undo.{Undoes, Fine, fine-change}
+use Rattle.bridge.proofs.Undo.{Undoes, Fine, fine-change, fine-found}
 use Rattle.bridge.proofs.ClearWords.{workIn, undoes-in, placed-all}
 use Rattle.bridge.proofs.SoundLaws.{undoable}
 use Rattle.bridge.proofs.HoldLaws.{turn-words}
@@ -41,20 +41,23 @@ use Rattle.area.proofs.Refused.{refused-words}
 use Rattle.moves.specs.Tally.{Follows}
 use Rattle.sums.proofs.KeptSmall.{kept-bound}
 use Rattle.settlement.specs.Settled.{settleVerdict, settled}
-use Rattle.statements.specs.Ended.{Ending, Ended}
+use Rattle.found.specs.declared.Cell.{Cell}
+use Rattle.found.specs.declared.Given.{Given}
+use Rattle.found.specs.Sought.{foundChanges}
+use Rattle.statements.specs.Ended.{concluded, Ending, Ended}
 use Rattle.statements.proofs.StatementLaws.{after-work, statement-done, statement-unsettled, statement-refused}
 use Rattle.statements.proofs.TallyEnds.{movement-is, movement-small}
 
 pub undoable-same : {b : List ℕ} {n : ℕ} {a a′ tally : List ℤ} {clean : Bool} → Ending b a tally n → Spare clean (schemaOf b) a → a′ ≡ a → Undoable b a′ × ((n ≤ length (workOf (schemaOf b) a′ .used)) × Spare clean (schemaOf b) a′)
 undoable-same {b} {n} {clean = clean} h z e = subst (λ l. Undoable b l × ((n ≤ length (workOf (schemaOf b) l .used)) × Spare clean (schemaOf b) l)) (sym e) (h .undoable, (h .begun, z))
 
-module _ (s : Schema) (n : ℕ) (tally a : List ℤ) where
-  pub ended-fail : (c : Refusal) (a₁ a₂ : List ℤ) → Fail c ≡ settled s tally a → a₁ ≡ a → Undone s n a₁ a₂ → Ended s (settled s tally a) n tally (Refused c) a a₂
+module _ (s : Schema) (n : ℕ) (tally a : List ℤ) {v : Verdict} where
+  pub ended-fail : (c : Refusal) (a₁ a₂ : List ℤ) → Fail c ≡ v → a₁ ≡ a → Undone s n a₁ a₂ → Ended s v n tally (Refused c) a a₂
   unfolding Ended
   ended-fail c a₁ a₂ v e u = subst (λ o. Ended s o n tally (Refused c) a a₂) v (refl, subst (λ l. Undone s n l a₂) e u)
 
-  pub ended-pass : (m : ℕ) (net : ℤ) (a′ : List ℤ) → Pass ≡ settled s tally a → m ≡ length (workOf s a .used) - n → net ≡ sum tally → Holds s a′ (afterStatement (workOf s a) (plus (view s a .kept) tally) (view s a))
-      → Ended s (settled s tally a) n tally (Done m net) a a′
+  pub ended-pass : (m : ℕ) (net : ℤ) (a′ : List ℤ) → Pass ≡ v → m ≡ length (workOf s a .used) - n → net ≡ sum tally → Holds s a′ (afterStatement (workOf s a) (plus (view s a .kept) tally) (view s a))
+      → Ended s v n tally (Done m net) a a′
   unfolding Ended
   ended-pass m net a′ v e d h = subst (λ o. Ended s o n tally (Done m net) a a′) v (ap₂ Done e d, h)
 
@@ -84,6 +87,11 @@ unfolding inTable workOf
 change-fine b {a} h t r image row =
     fine-change (accepted-valid b (h .ready .accepted)) 16 t r image (lt-ltb r (tableOf (schemaOf b) t .rows) row) (workOf (schemaOf b) a) (formed-fit (h .ready .fit) .shaped)
 
+-- every row that is found
+pub found-fine : (b : List ℕ) {a : List ℤ} → Sound b a → (t : ℕ) (sought : Cell) (given : Given) → Fine (schemaOf b) (workOf (schemaOf b) a) (foundChanges (schemaOf b) t sought given (workOf (schemaOf b) a))
+unfolding foundChanges workOf
+found-fine b {a} h t sought given = fine-found (accepted-valid b (h .ready .accepted)) t _ _ (workOf (schemaOf b) a) (formed-fit (h .ready .fit) .shaped)
+
 -- from a sound area a, the statement's row changes are made: a₁ and the tally are what they left, n is the use at the entry
 module _ (b : List ℕ) {a : List ℤ} (h : Sound b a) (body : Work → Result) (fine : Fine (schemaOf b) (workOf (schemaOf b) a) (body (workOf (schemaOf b) a))) (o : Verdict) {tally a₁ : List ℤ}
     (e : (resultOf o (workOf (schemaOf b) a₁) ≡ body (workOf (schemaOf b) a)) × Follows (schemaOf b) (replicate 32 𝟘) a tally a₁)
@@ -106,10 +114,6 @@ module _ (b : List ℕ) {a : List ℤ} (h : Sound b a) (body : Work → Result) 
   begun-at : n ≤ length (workOf (schemaOf b) a₁ .used)
   begun-at = rw (undoes .used-is) (simp length-append (omega (arith, use-at)))
 
-  -- what is required to put them back, and to settle them
-  pub changed-undoable : {clean : Bool} → Spare clean (schemaOf b) a → Undoable b a₁ × ((n ≤ length (workOf (schemaOf b) a₁ .used)) × Spare clean (schemaOf b) a₁)
-  changed-undoable z = (can-undo, (begun-at, spare-changed s a a₁ z undoes))
-
   ending : Ending b a₁ tally n
   ending =
       record {
@@ -122,6 +126,7 @@ module _ (b : List ℕ) {a : List ℤ} (h : Sound b a) (body : Work → Result) 
         begun = begun-at;
       }
 
+  -- what is required to end the statement
   pub changed-ending : {clean : Bool} → Spare clean (schemaOf b) a → Ending b a₁ tally n × Spare clean (schemaOf b) a₁
   changed-ending z = (ending, spare-changed s a a₁ z undoes)
 
@@ -132,14 +137,16 @@ module _ (b : List ℕ) {a : List ℤ} (h : Sound b a) (body : Work → Result) 
   refused-turn : {a₂ : List ℤ} (c : Refusal) → Undone (schemaOf b) n a₁ a₂ → {x : Turn} → x ≡ (Refused c, cleared (view (schemaOf b) a)) → (Refused c, a₂) ≡ onWords x
   refused-turn c u q = ap {B = Answer × List ℤ} (λ l. (Refused c, l)) (cleared-words u) ∙ sym (ap onWords q)
 
-  pub change-refused : (c : Refusal) → o ≡ Fail c → {a₂ : List ℤ} → Undone (schemaOf b) n a₁ a₂ → (Refused c, a₂) ≡ onWords (statement (schemaOf b) body (view (schemaOf b) a))
-  unfolding resultOf workOf
-  change-refused c q u =
-      refused-turn c u (statement-refused s c (workOf s a₁) (view s a) body (ap (λ o. resultOf o (workOf s a₁)) (sym q) ∙ e .0))
-
-  pub change-ended : o ≡ Pass → (x : Answer) (a₂ : List ℤ) → Ended (schemaOf b) (settled (schemaOf b) tally a₁) n tally x a₁ a₂ → (x, a₂) ≡ onWords (statement (schemaOf b) body (view (schemaOf b) a))
+  -- refused by a row change
+  refused-is : (c : Refusal) → o ≡ Fail c → (x : Answer) (a₂ : List ℤ) → Ended (schemaOf b) (Fail c) n tally x a₁ a₂ → (x, a₂) ≡ onWords (statement (schemaOf b) body (view (schemaOf b) a))
   unfolding resultOf workOf Ended
-  change-ended q x a₂ k = by (settled s tally a) refl (subst (λ v. Ended s v n tally x a₁ a₂) (settled-same (e .1 .keeps) tally) k)
+  refused-is c q x a₂ (d, u) =
+      ap {B = Answer × List ℤ} (λ y. (y, a₂)) d ∙ refused-turn c u (statement-refused s c (workOf s a₁) (view s a) body (ap (λ o. resultOf o (workOf s a₁)) (sym q) ∙ e .0))
+
+  -- all row changes made
+  settled-is : o ≡ Pass → (x : Answer) (a₂ : List ℤ) → Ended (schemaOf b) (settled (schemaOf b) tally a₁) n tally x a₁ a₂ → (x, a₂) ≡ onWords (statement (schemaOf b) body (view (schemaOf b) a))
+  unfolding resultOf workOf Ended
+  settled-is q x a₂ k = by (settled s tally a) refl (subst (λ v. Ended s v n tally x a₁ a₂) (settled-same (e .1 .keeps) tally) k)
     where
       goes : go (workOf s a₁) ≡ body (view s a .work)
       goes = ap (λ o. resultOf o (workOf s a₁)) (sym q) ∙ e .0
@@ -153,3 +160,11 @@ module _ (b : List ℕ) {a : List ℤ} (h : Sound b a) (body : Work → Result) 
           ∙ turn-words (record { fit = k .fit; is = k .is ∙ after-same (e .1 .keeps) tally }) (statement-done s (workOf s a₁) tally (view s a) body goes move w)
       by (Fail c) w (d, u) =
           ap {B = Answer × List ℤ} (λ y. (y, a₂)) d ∙ refused-turn c u (statement-unsettled s (workOf s a₁) tally (view s a) body goes move c w)
+
+  pub statement-ended : (x : Answer) (a₂ : List ℤ) → Ended (schemaOf b) (concluded o (settled (schemaOf b) tally a₁)) n tally x a₁ a₂ → (x, a₂) ≡ onWords (statement (schemaOf b) body (view (schemaOf b) a))
+  unfolding concluded
+  statement-ended x a₂ k = by o refl k
+    where
+      by : (o′ : Verdict) → o ≡ o′ → Ended s (concluded o′ (settled s tally a₁)) n tally x a₁ a₂ → (x, a₂) ≡ onWords (statement s body (view s a))
+      by Pass q k = settled-is q x a₂ k
+      by (Fail c) q k = refused-is c q x a₂ k

@@ -1,3 +1,4 @@
 pub mod StatementLaws
 pub mod TallyEnds
+pub mod FoundLaws
 pub mod Ends

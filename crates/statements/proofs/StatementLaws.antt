@@ -19,12 +19,24 @@ use Rattle.rules.specs.Book.{Work, Book, withWork, cleared}
 use Rattle.rules.specs.Change.{Result, go, stop}
 use Rattle.rules.specs.State.{inTransaction, keptInRange}
 use Rattle.rules.specs.Statement.{Turn, demand, enforced, afterStatement, settle, conclude, statement}
-use Rattle.settlement.specs.Settled.{settleVerdict}
+use Rattle.settlement.specs.Settled.{settleVerdict, After}
+use Rattle.statements.specs.Ended.{concluded}
 
 -- the book after an accepted statement does not depend on the work before
 pub after-work : (b : Book) (kept : List ℤ) (w v : Work) → afterStatement w kept (withWork v b) ≡ afterStatement w kept b
 unfolding afterStatement
 after-work b kept w v = refl
+
+-- ---- row changes made, then settled
+module _ (s : Schema) (kept a : List ℤ) (v : Verdict) where
+  -- refused, nothing is settled
+  pub made-refused : {made : Verdict} {c : Refusal} → made ≡ Fail c → (Fail c ≡ concluded made v) × After s (Fail c) kept a a
+  unfolding concluded After
+  made-refused e = (rw e refl, refl)
+
+pub made-passed : {made o v : Verdict} → made ≡ Pass → o ≡ v → o ≡ concluded made v
+unfolding concluded
+made-passed e f = rw e f
 
 -- ---- a statement
 

@@ -19,6 +19,11 @@ use Rattle.bridge.specs.Ready.{Undoable}
 use Rattle.area.specs.Undone.{Undone}
 use Rattle.settlement.specs.Settled.{Settling}
 
+-- the verdict on a statement: on its row changes, then on what is settled
+unfoldable pub concluded : Verdict → Verdict → Verdict
+concluded Pass v = v
+concluded (Fail c) v = Fail c
+
 -- what the end of a statement requires that began at the use n
 pub record Ending (b : List ℕ) (a tally : List ℤ) (n : ℕ) : Type 0 where
   pub settling : Settling b a tally

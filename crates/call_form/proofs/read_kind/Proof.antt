@@ -32,6 +32,12 @@ read-bare-requires-3 c κs = search needs
 read-bare-requires-4 : tie.Need-read-bare-requires-4
 read-bare-requires-4 c κs = search needs
 
+read-delete-where-requires : tie.Need-read-delete-where-requires
+read-delete-where-requires c κs = search needs
+
+read-update-where-requires : tie.Need-read-update-where-requires
+read-update-where-requires c κs = search needs
+
 returns : tie.Need-returns
 returns c = c .read-insert .ensures ∙ at-kind _ _ (c .before .match .keys1)
 
@@ -64,11 +70,17 @@ unfolding callOf
 returns-9 c = c .read-bare4 .ensures ∙ sym (commit-is _ _) ∙ at-kind _ _ (c .before .match .keys9)
 
 returns-10 : tie.Need-returns-10
+returns-10 c = c .read-delete-where .ensures ∙ at-kind _ _ (c .before .match .keys10)
+
+returns-11 : tie.Need-returns-11
+returns-11 c = c .read-update-where .ensures ∙ at-kind _ _ (c .before .match .keys11)
+
+returns-12 : tie.Need-returns-12
 unfolding callOf
-returns-10 c =
+returns-12 c =
     let m = c .match .rest in
     let k = c .before .before .args .kind in
-    other-is _ _ k (λ h. above 9 k (above 8 k (above 7 k (above 6 k (above 5 k (above 4 k (above 3 k (above 2 k (above 1 k h (m .0 .0 .0 .0 .0 .0 .0 .0 .1)) (m .0 .0 .0 .0 .0 .0 .0 .1)) (m .0 .0 .0 .0 .0 .0 .1)) (m .0 .0 .0 .0 .0 .1)) (m .0 .0 .0 .0 .1)) (m .0 .0 .0 .1)) (m .0 .0 .1)) (m .0 .1)) (m .1))
+    other-is _ _ k (λ h. above 11 k (above 10 k (above 9 k (above 8 k (above 7 k (above 6 k (above 5 k (above 4 k (above 3 k (above 2 k (above 1 k h (m .0 .0 .0 .0 .0 .0 .0 .0 .0 .0 .1)) (m .0 .0 .0 .0 .0 .0 .0 .0 .0 .1)) (m .0 .0 .0 .0 .0 .0 .0 .0 .1)) (m .0 .0 .0 .0 .0 .0 .0 .1)) (m .0 .0 .0 .0 .0 .0 .1)) (m .0 .0 .0 .0 .0 .1)) (m .0 .0 .0 .0 .1)) (m .0 .0 .0 .1)) (m .0 .0 .1)) (m .0 .1)) (m .1))
 
 pub read-kind-spec : {M : Type 1} → statement M
 read-kind-spec =
@@ -83,6 +95,8 @@ read-kind-spec =
     read-rollback-to-requires
     read-bare-requires-3
     read-bare-requires-4
+    read-delete-where-requires
+    read-update-where-requires
     returns
     returns-2
     returns-3
@@ -92,4 +106,6 @@ read-kind-spec =
     returns-7
     returns-8
     returns-9
-    returns-10)
+    returns-10
+    returns-11
+    returns-12)

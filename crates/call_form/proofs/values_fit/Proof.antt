@@ -16,6 +16,9 @@ abbrev μ-loop : tie.MeasureT-loop
 loop-holds : tie.Need-loop-holds Inv-loop μ-loop
 loop-holds c = (search needs, refl)
 
+add-value-fits : tie.Need-add-value-fits Inv-loop μ-loop
+add-value-fits c = search needs
+
 value-fits-requires : tie.Need-value-fits-requires Inv-loop μ-loop
 value-fits-requires c κs = search needs
 
@@ -47,6 +50,7 @@ values-fit-spec =
     Inv-loop
     μ-loop
     loop-holds
+    add-value-fits
     value-fits-requires
     returns
     add-i

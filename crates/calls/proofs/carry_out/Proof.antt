@@ -1,6 +1,6 @@
-use borrow.Author.Needs.{needs}
 use Rattle.call_form.specs.Requests.{callOf}
 use Rattle.calls.proofs.CallLaws as law
+use borrow.Author.Needs.{needs}
 use Rattle.calls.proofs.carry_out.Statement.{statement}
 use Rattle.calls.proofs.carry_out.Tie as tie
 
@@ -28,21 +28,20 @@ enum-known-request-3 c = search needs
 
 delete-requires : tie.Need-delete-requires
 delete-requires c κs =
-    let s = c .before .before .before .before .before in
-    let row = law.delete-call (s .args .schema .now) (s .args .area .now) (s .args .call .now) (s .args .request) (s .pre .0) (s .pre .1 .0) (c .before .before .request3 .given .1) in
-    (s .pre .0, (row .0, (row .1, s .pre .1 .1)))
+    let row = law.delete-call (c .before .before .before .before .before .args .schema .now) (c .before .before .before .before .before .args .area .now) (c .before .before .before .before .before .args .call .now) (c .before .before .before .before .before .args .request) (c .before .before .before .before .before .pre .0) (c .before .before .before .before .before .pre .1 .0) (c .before .before .request3 .given .1) in
+    (c .before .before .before .before .before .pre .0, (row .0, (row .1, c .before .before .before .before .before .pre .1 .1)))
 
 enum-told-2 : tie.Need-enum-told-2
 enum-told-2 c = search needs
 
 begin-requires : tie.Need-begin-requires
-begin-requires c κs = c .before .before .before .before .pre .0 .ready
+begin-requires c κs = search needs
 
 enum-told-3 : tie.Need-enum-told-3
 enum-told-3 c = search needs
 
 savepoint-requires : tie.Need-savepoint-requires
-savepoint-requires c κs = c .before .before .before .before .pre .0
+savepoint-requires c κs = search needs
 
 enum-known-request-4 : tie.Need-enum-known-request-4
 enum-known-request-4 c = search needs
@@ -64,17 +63,29 @@ enum-told-4 : tie.Need-enum-told-4
 enum-told-4 c = search needs
 
 rollback-requires : tie.Need-rollback-requires
-rollback-requires c κs =
-    let s = c .before .before .before .before in
-    (s .pre .0, s .pre .1 .1)
+rollback-requires c κs = search needs
 
 enum-told-5 : tie.Need-enum-told-5
 enum-told-5 c = search needs
 
 commit-requires : tie.Need-commit-requires
-commit-requires c κs =
-    let s = c .before .before .before .before in
-    (s .pre .0 .ready, s .pre .1 .1)
+commit-requires c κs = search needs
+
+enum-known-request-6 : tie.Need-enum-known-request-6
+enum-known-request-6 c = search needs
+
+delete-where-requires : tie.Need-delete-where-requires
+delete-where-requires c κs =
+    let s = c .before .before .before .before .before in
+    (law.delete-found-call (s .args .schema .now) (s .args .area .now) (s .args .call .now) (s .args .request) (s .pre .0) (s .pre .1 .0) (c .before .before .request6 .given .1), s .pre .1 .1)
+
+enum-known-request-7 : tie.Need-enum-known-request-7
+enum-known-request-7 c = search needs
+
+update-where-requires : tie.Need-update-where-requires
+update-where-requires c κs =
+    let found = law.update-found-call (c .before .before .before .before .before .args .schema .now) (c .before .before .before .before .before .args .area .now) (c .before .before .before .before .before .args .call .now) (c .before .before .before .before .before .args .request) (c .before .before .before .before .before .pre .0) (c .before .before .before .before .before .pre .1 .0) (c .before .before .request7 .given .1) in
+    (found .0, (found .1, c .before .before .before .before .before .pre .1 .1))
 
 returns : tie.Need-returns
 returns c =
@@ -144,6 +155,20 @@ returns-10 : tie.Need-returns-10
 unfolding callOf
 returns-10 c = rw (c .before .before .before .enum-told5 .given .1) (c .before .commit .ensures)
 
+same-length-10 : tie.Need-same-length-10
+same-length-10 c = search needs
+
+returns-11 : tie.Need-returns-11
+unfolding callOf
+returns-11 c = rw (c .before .before .before .before .request6 .given .1) (c .before .delete-where .ensures)
+
+same-length-11 : tie.Need-same-length-11
+same-length-11 c = search needs
+
+returns-12 : tie.Need-returns-12
+unfolding callOf
+returns-12 c = rw (c .before .before .before .before .request7 .given .1) (c .before .update-where .ensures)
+
 pub carry-out-spec : {M : Type 1} → statement M
 carry-out-spec =
     tie.close
@@ -167,6 +192,10 @@ carry-out-spec =
     rollback-requires
     enum-told-5
     commit-requires
+    enum-known-request-6
+    delete-where-requires
+    enum-known-request-7
+    update-where-requires
     returns
     same-length
     returns-2
@@ -185,4 +214,8 @@ carry-out-spec =
     same-length-8
     returns-9
     same-length-9
-    returns-10)
+    returns-10
+    same-length-10
+    returns-11
+    same-length-11
+    returns-12)

@@ -34,6 +34,12 @@ enum-told-9 c = search needs
 enum-told-10 : tie.Need-enum-told-10
 enum-told-10 c = search needs
 
+enum-told-11 : tie.Need-enum-told-11
+enum-told-11 c = search needs
+
+enum-told-12 : tie.Need-enum-told-12
+enum-told-12 c = search needs
+
 returns : tie.Need-returns
 unfolding isRefused
 returns c = rw (c .enum-told .given .1) refl
@@ -74,6 +80,14 @@ returns-10 : tie.Need-returns-10
 unfolding isRefused
 returns-10 c = rw (c .enum-told10 .given .1) refl
 
+returns-11 : tie.Need-returns-11
+unfolding isRefused
+returns-11 c = rw (c .enum-told11 .given .1) refl
+
+returns-12 : tie.Need-returns-12
+unfolding isRefused
+returns-12 c = rw (c .enum-told12 .given .1) refl
+
 pub is-refused-spec : {M : Type 1} → statement M
 is-refused-spec =
     tie.close
@@ -88,6 +102,8 @@ is-refused-spec =
     enum-told-8
     enum-told-9
     enum-told-10
+    enum-told-11
+    enum-told-12
     returns
     returns-2
     returns-3
@@ -97,4 +113,6 @@ is-refused-spec =
     returns-7
     returns-8
     returns-9
-    returns-10)
+    returns-10
+    returns-11
+    returns-12)

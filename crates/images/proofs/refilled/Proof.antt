@@ -1,30 +1,27 @@
-use mathlib.Core.Path.{_≡_, refl, sym, ap, _∙_}
-use Prim.Native.Nat.{_+_, _-_, _≤_, _%_}
+use mathlib.Core.Path.{_≡_, refl, sym, _∙_}
+use Prim.Native.Nat.{_-_, _≤_}
 use native.Mathlib.Omega.{arith}
-use borrow.Author.Needs.{needs}
-use lib.IntN.{ℤ, pos}
-use lib.ListN.{length, getD, take, drop, length-set}
+use lib.ListN.{take, drop}
 use Rattle.words.proofs.Signed.{back}
 use Rattle.schema.specs.Records.{tableOf}
 use Rattle.schema.specs.Fields.{schemaOf}
-use Rattle.rules.specs.Values.{natOf}
-use Rattle.rules.specs.Change.{flag, refilled}
+use Rattle.rules.specs.Change.{refilled}
 use Rattle.images.proofs.ImageLaws.{fill-none, fill-step}
+use borrow.Author.Needs.{needs}
 use Rattle.images.proofs.refilled.Statement.{statement}
 use Rattle.images.proofs.refilled.Tie as tie
 
 abbrev Inv-loop : tie.InvT-loop
 Inv-loop schema t action new n cs ps x₀ i₀ x i =
     (i ≤ n)
-    × ((length x ≡ 9)
     × (refilled action (tableOf (schemaOf schema) t) new (take n cs) (take n ps) x₀
-    ≡ refilled action (tableOf (schemaOf schema) t) new (drop i (take n cs)) (drop i (take n ps)) x))
+    ≡ refilled action (tableOf (schemaOf schema) t) new (drop i (take n cs)) (drop i (take n ps)) x)
 
 abbrev μ-loop : tie.MeasureT-loop
 μ-loop schema t action new n cs ps x₀ i₀ x i = n - i
 
 loop-holds : tie.Need-loop-holds Inv-loop μ-loop
-loop-holds c = (search needs, (search needs, refl))
+loop-holds c = (search needs, refl)
 
 mul-c : tie.Need-mul-c Inv-loop μ-loop
 mul-c c = search needs
@@ -52,34 +49,10 @@ filler-requires c κs =
     let k = s .pre .1 .1 .within (c .before .before .loop .i) (c .before .loop-test .taken) in
     (s .pre .0, (omega arith, omega arith))
 
-array-copy-out-state : tie.Need-array-copy-out-state Inv-loop μ-loop
-array-copy-out-state c = search needs
-
-cell-state-requires : tie.Need-cell-state-requires Inv-loop μ-loop
-cell-state-requires c κs =
-    let s = c .before .before .before .before .before .before in
-    let h = s .pre .1 .0 .within (c .before .before .before .before .loop .i) (c .before .before .before .loop-test .taken) in
-    omega arith
-
-array-set-from-x : tie.Need-array-set-from-x Inv-loop μ-loop
-array-set-from-x c = search needs
-
-add-x : tie.Need-add-x Inv-loop μ-loop
-add-x c =
-    let s = c .before .before .before .before .before .before .before in
-    let h = s .pre .1 .0 .within (c .before .before .before .before .before .loop .i) (c .before .before .before .before .loop-test .taken) in
-    omega arith
-
-mul-x : tie.Need-mul-x Inv-loop μ-loop
-mul-x c =
-    let s = c .before .before .before .before .before .before .before in
-    let h = s .pre .1 .0 .within (c .before .before .before .before .before .loop .i) (c .before .before .before .before .loop-test .taken) in
-    omega arith
-
-array-set-from-x-2 : tie.Need-array-set-from-x-2 Inv-loop μ-loop
-array-set-from-x-2 c =
-    let s = c .before .before .before .before .before .before .before in
-    let h = s .pre .1 .0 .within (c .before .before .before .before .before .loop .i) (c .before .before .before .before .loop-test .taken) in
+set-cell-requires : tie.Need-set-cell-requires Inv-loop μ-loop
+set-cell-requires c κs =
+    let s = c .before .before .before .before .before in
+    let h = s .pre .1 .0 .within (c .before .before .before .loop .i) (c .before .before .loop-test .taken) in
     omega arith
 
 add-i : tie.Need-add-i Inv-loop μ-loop
@@ -90,25 +63,20 @@ loop-less c = search needs
 
 loop-again : tie.Need-loop-again Inv-loop μ-loop
 loop-again c =
-    let s = c .before .before .before .before .before .before .before in
-    let l = c .before .before .before .before .before .loop in
-    let null = c .before .before .before .fills-null .result in (
+    let s = c .before .before .before .before .before .before in
+    let l = c .before .before .before .before .loop in
+    let loop-test = c .before .before .before .loop-test in
+    let fills-null = c .before .before .fills-null in
+    let filler = c .before .filler in (
       omega arith,
-      (
-        simp length-set (l .inv .1 .0),
-        l .inv .1 .1
-            ∙ fill-step _ _ _ _ _ _ (s .pre .1 .0) (s .pre .1 .1) (l .i) (c .before .before .before .before .loop-test .taken) (l .x) null _ _ (c .before .before .before .fills-null .ensures)
-            (back _ (c .before .before .filler .ok) ∙ c .before .before .filler .ensures)
-            (back _ (c .cell-state .ok)
-            ∙ c .cell-state .ensures
-            ∙ ap (λ (z : ℤ). pos (256 + flag (getD (s .args .t6) (l .i) 0) null (natOf z % 256))) (back _ (c .before .state .given))),
-      ),
+      l .inv .1
+          ∙ fill-step _ _ _ _ _ _ (s .pre .1 .0) (s .pre .1 .1) (l .i) (loop-test .taken) (l .x) _ (fills-null .result) _ (fills-null .ensures) (back _ (filler .ok) ∙ filler .ensures) (c .set-cell .ensures),
     )
 
 returns : tie.Need-returns Inv-loop μ-loop
 returns c =
     let l = c .before .loop in
-    sym (l .inv .1 .1 ∙ fill-none _ _ _ _ _ _ (l .i) (l .x) (c .loop-test .left))
+    sym (l .inv .1 ∙ fill-none _ _ _ _ _ _ (l .i) (l .x) (c .loop-test .left))
 
 pub refilled-spec : {M : Type 1} → statement M
 refilled-spec =
@@ -123,12 +91,7 @@ refilled-spec =
     array-read-p
     fills-null-requires
     filler-requires
-    array-copy-out-state
-    cell-state-requires
-    array-set-from-x
-    add-x
-    mul-x
-    array-set-from-x-2
+    set-cell-requires
     add-i
     loop-less
     loop-again

@@ -16,60 +16,25 @@ row-change-requires c κs =
     let s = c .before .before .before .before .before in
     record { tallied = tally-begins (s .args .schema .now) (s .pre .0 .ready); table = s .pre .1 .0; row = s .pre .1 .1 .0 }
 
-enum-known-c : tie.Need-enum-known-c
-enum-known-c c = search needs
-
-put-back-requires : tie.Need-put-back-requires
-put-back-requires c κs =
-    let nat-at = c .before .before .before .before .before .before .before .before .nat-at in
-    let row-change = c .before .before .before .before .before .row-change in
-    let s = c .before .before .before .before .before .before .before .before .before .before .before in
-    ends.changed-undoable (s .args .schema .now) (s .pre .0) (change 16 (schemaOf (s .args .schema .now)) (s .args .t) (s .args .r) (s .args .image)) (ends.change-fine (s .args .schema .now) (s .pre .0) (s .args .t) (s .args .r) (s .args .image) (s .pre .1 .1 .0)) (row-change .result) (row-change .ensures) (nat-at .ensures) (s .pre .1 .1 .1)
-
-enum-told : tie.Need-enum-told
-enum-told c = search needs
-
 conclude-requires : tie.Need-conclude-requires
 conclude-requires c κs =
-    let nat-at = c .before .before .before .before .before .before .before .nat-at in
-    let row-change = c .before .before .before .before .row-change in
-    let s = c .before .before .before .before .before .before .before .before .before .before in
-    ends.changed-ending (s .args .schema .now) (s .pre .0) (change 16 (schemaOf (s .args .schema .now)) (s .args .t) (s .args .r) (s .args .image)) (ends.change-fine (s .args .schema .now) (s .pre .0) (s .args .t) (s .args .r) (s .args .image) (s .pre .1 .1 .0)) (row-change .result) (row-change .ensures) (nat-at .ensures) (s .pre .1 .1 .1)
+    let s = c .before .before .before .before .before .before .before .before in
+    let b = s .args .schema .now in
+    let body = change 16 (schemaOf b) (s .args .t) (s .args .r) (s .args .image) in
+    let fine = ends.change-fine b (s .pre .0) (s .args .t) (s .args .r) (s .args .image) (s .pre .1 .1 .0) in
+    ends.changed-ending b (s .pre .0) body fine (c .before .before .row-change .result) (c .before .before .row-change .ensures) (c .before .before .before .before .before .nat-at .ensures) (s .pre .1 .1 .1)
 
 same-length : tie.Need-same-length
 same-length c = search needs
 
 returns : tie.Need-returns
 returns c =
-    let nat-at = c .before .before .before .before .before .before .before .before .before .before .nat-at in
-    let row-change = c .before .before .before .before .before .before .before .row-change in
-    let put-back = c .before .put-back in
-    let s = c .before .before .before .before .before .before .before .before .before .before .before .before .before in
-    ends.change-refused (s .args .schema .now) (s .pre .0) (change 16 (schemaOf (s .args .schema .now)) (s .args .t) (s .args .r) (s .args .image)) (ends.change-fine (s .args .schema .now) (s .pre .0) (s .args .t) (s .args .r) (s .args .image) (s .pre .1 .1 .0)) (row-change .result) (row-change .ensures) (nat-at .ensures) _ (c .before .before .before .before .c .given .1) (put-back .ensures)
-
-same-length-2 : tie.Need-same-length-2
-same-length-2 c = search needs
-
-returns-2 : tie.Need-returns-2
-returns-2 c =
-    let nat-at = c .before .before .before .before .before .before .before .before .before .nat-at in
-    let row-change = c .before .before .before .before .before .before .row-change in
-    let enum-told = c .before .before .before .enum-told in
-    let conclude = c .before .conclude in
-    let s = c .before .before .before .before .before .before .before .before .before .before .before .before in
-    ends.change-ended (s .args .schema .now) (s .pre .0) (change 16 (schemaOf (s .args .schema .now)) (s .args .t) (s .args .r) (s .args .image)) (ends.change-fine (s .args .schema .now) (s .pre .0) (s .args .t) (s .args .r) (s .args .image) (s .pre .1 .1 .0)) (row-change .result) (row-change .ensures) (nat-at .ensures) (enum-told .given .1) _ _ (conclude .ensures)
+    let s = c .before .before .before .before .before .before .before .before .before .before in
+    let b = s .args .schema .now in
+    let body = change 16 (schemaOf b) (s .args .t) (s .args .r) (s .args .image) in
+    let fine = ends.change-fine b (s .pre .0) (s .args .t) (s .args .r) (s .args .image) (s .pre .1 .1 .0) in
+    ends.statement-ended b (s .pre .0) body fine (c .before .before .before .before .row-change .result) (c .before .before .before .before .row-change .ensures) (c .before .before .before .before .before .before .before .nat-at .ensures) _ _ (c .before .conclude .ensures)
 
 pub change-row-spec : {M : Type 1} → statement M
 change-row-spec =
-    tie.close
-    (tie.spec
-    nat-at-requires
-    row-change-requires
-    enum-known-c
-    put-back-requires
-    enum-told
-    conclude-requires
-    same-length
-    returns
-    same-length-2
-    returns-2)
+    tie.close (tie.spec nat-at-requires row-change-requires conclude-requires same-length returns)

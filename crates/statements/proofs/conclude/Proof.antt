@@ -19,22 +19,20 @@ nat-at-requires : tie.Need-nat-at-requires
 nat-at-requires c κs = omega (arith, area-long (c .before .before .pre .0 .settling .ready .fit))
 
 sub-changed : tie.Need-sub-changed
-sub-changed c =
-    let s = c .before .before .before in
-    omega (arith, s .pre .0 .begun, c .nat-at .ensures, use-is (s .pre .0 .settling .ready .fit))
+sub-changed c = omega (arith, c .before .before .before .pre .0 .begun, c .nat-at .ensures, use-is (c .before .before .before .pre .0 .settling .ready .fit))
 
-settle-requires : tie.Need-settle-requires
-settle-requires c κs = search needs
+settle-made-requires : tie.Need-settle-made-requires
+settle-made-requires c κs = search needs
 
 enum-known-c : tie.Need-enum-known-c
 enum-known-c c = search needs
 
 put-back-requires : tie.Need-put-back-requires
 put-back-requires c κs =
-    let settle = c .before .before .before .before .before .settle in
     let s = c .before .before .before .before .before .before .before .before .before .before in
     let sc : Schema = schemaOf (s .args .schema .now) in
-    ends.undoable-same (s .pre .0) (s .pre .1) (kept.failed-same sc (plus ((view sc (s .args .area .now)) .kept) (s .args .tally)) (s .args .area .now) (settle .last .1 .0) (c .before .before .c .given .1) (settle .ensures .1))
+    let made = c .before .before .before .before .before .settle-made in
+    ends.undoable-same (s .pre .0) (s .pre .1) (kept.failed-same sc (plus ((view sc (s .args .area .now)) .kept) (s .args .tally)) (s .args .area .now) (made .last .1 .0) (c .before .before .c .given .1) (made .ensures .1))
 
 enum-told : tie.Need-enum-told
 enum-told c = search needs
@@ -47,23 +45,21 @@ same-length c = search needs
 
 returns : tie.Need-returns
 returns c =
-    let settle = c .before .before .before .before .before .before .before .settle in
-    let put-back = c .before .put-back in
     let s = c .before .before .before .before .before .before .before .before .before .before .before .before in
     let sc : Schema = schemaOf (s .args .schema .now) in
-    ends.ended-fail sc (s .args .used) (s .args .tally) (s .args .area .now) _ _ _ (sym (c .before .before .before .before .c .given .1) ∙ settle .ensures .0) (kept.failed-same sc (plus ((view sc (s .args .area .now)) .kept) (s .args .tally)) (s .args .area .now) (settle .last .1 .0) (c .before .before .before .before .c .given .1) (settle .ensures .1)) (put-back .ensures)
+    let made = c .before .before .before .before .before .before .before .settle-made in
+    ends.ended-fail sc (s .args .used) (s .args .tally) (s .args .area .now) _ _ _ (sym (c .before .before .before .before .c .given .1) ∙ made .ensures .0) (kept.failed-same sc (plus ((view sc (s .args .area .now)) .kept) (s .args .tally)) (s .args .area .now) (made .last .1 .0) (c .before .before .before .before .c .given .1) (made .ensures .1)) (c .before .put-back .ensures)
 
 same-length-2 : tie.Need-same-length-2
 same-length-2 c = search needs
 
 returns-2 : tie.Need-returns-2
 returns-2 c =
-    let nat-at = c .before .before .before .before .before .before .nat-at in
-    let settle = c .before .before .before .before .settle in
-    let enum-told = c .before .enum-told in
     let s = c .before .before .before .before .before .before .before .before .before in
     let sc : Schema = schemaOf (s .args .schema .now) in
-    ends.ended-pass sc (s .args .used) (s .args .tally) (s .args .area .now) _ _ _ (sym (enum-told .given .1) ∙ settle .ensures .0) (ap (λ (n : ℕ). n - s .args .used) (nat-at .ensures ∙ sym (use-is (s .pre .0 .settling .ready .fit)))) (back _ (c .sum-of .ok) ∙ c .sum-of .ensures) (kept.passed-holds sc (plus ((view sc (s .args .area .now)) .kept) (s .args .tally)) (s .args .area .now) (settle .last .1 .0) (enum-told .given .1) (settle .ensures .1))
+    let made = c .before .before .before .before .settle-made in
+    let told = c .before .enum-told in
+    ends.ended-pass sc (s .args .used) (s .args .tally) (s .args .area .now) _ _ _ (sym (told .given .1) ∙ made .ensures .0) (ap (λ (n : ℕ). n - s .args .used) (c .before .before .before .before .before .before .nat-at .ensures ∙ sym (use-is (s .pre .0 .settling .ready .fit)))) (back _ (c .sum-of .ok) ∙ c .sum-of .ensures) (kept.passed-holds sc (plus ((view sc (s .args .area .now)) .kept) (s .args .tally)) (s .args .area .now) (made .last .1 .0) (told .given .1) (made .ensures .1))
 
 pub conclude-spec : {M : Type 1} → statement M
 conclude-spec =
@@ -71,7 +67,7 @@ conclude-spec =
     (tie.spec
     nat-at-requires
     sub-changed
-    settle-requires
+    settle-made-requires
     enum-known-c
     put-back-requires
     enum-told

@@ -1,0 +1,38 @@
+use native.Mathlib.Omega.{arith}
+use Rattle.rows.proofs.TableLaws.{standing, columns-few}
+use Rattle.found.proofs.SoughtLaws.{found-in-table}
+use borrow.Author.Needs.{needs}
+use Rattle.found.proofs.next_found.Statement.{statement}
+use Rattle.found.proofs.next_found.Tie as tie
+
+rows-of-requires : tie.Need-rows-of-requires
+rows-of-requires c κs = search needs
+
+first-null-requires : tie.Need-first-null-requires
+first-null-requires c κs =
+    let s = c .before .before .before in
+    let table = c .before .rows-of in
+    ((standing (s .args .schema .now) (s .args .area .now) (s .pre .0 .0) (s .args .t) (s .pre .0 .1) (table .result) (table .ensures), omega (arith, s .pre .1 .1, table .ensures .count-is)), (omega (arith, s .pre .1 .0, columns-few (s .args .schema .now) (s .pre .0 .0 .accepted) (s .args .t) (s .pre .0 .1)), c .if1 .taken))
+
+returns : tie.Need-returns
+returns c =
+    let s = c .before .before .before .before in
+    let table = c .before .before .rows-of in
+    found-in-table (s .args .schema .now) (s .args .area .now) (s .args .t) (table .result) (s .pre .0 .0) (s .pre .0 .1) (table .ensures) (s .args .sought) (c .first-null .ensures)
+
+first-equal-requires : tie.Need-first-equal-requires
+first-equal-requires c κs =
+    let s = c .before .before .before in
+    let table = c .before .rows-of in
+    ((standing (s .args .schema .now) (s .args .area .now) (s .pre .0 .0) (s .args .t) (s .pre .0 .1) (table .result) (table .ensures), omega (arith, s .pre .1 .1, table .ensures .count-is)), (omega (arith, s .pre .1 .0, table .ensures .width-is), c .if1 .left))
+
+returns-2 : tie.Need-returns-2
+returns-2 c =
+    let s = c .before .before .before .before in
+    let table = c .before .before .rows-of in
+    found-in-table (s .args .schema .now) (s .args .area .now) (s .args .t) (table .result) (s .pre .0 .0) (s .pre .0 .1) (table .ensures) (s .args .sought) (c .first-equal .ensures)
+
+pub next-found-spec : {M : Type 1} → statement M
+next-found-spec =
+    tie.close
+    (tie.spec rows-of-requires first-null-requires returns first-equal-requires returns-2)

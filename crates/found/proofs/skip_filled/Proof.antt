@@ -1,0 +1,60 @@
+use mathlib.Core.Path.{sym, _∙_}
+use Prim.Native.Nat.{_-_}
+use native.Mathlib.Omega.{arith}
+use Rattle.rows.proofs.TableLaws.{rowsFrom}
+use Rattle.skips.specs.Skipped.{Skipped}
+use Rattle.skips.proofs.SkipLaws.{skip-start, skip-four, rows-fit}
+use Rattle.found.specs.Sought.{nullIn}
+use Rattle.found.proofs.skip_filled.Statement.{statement}
+use Rattle.found.proofs.skip_filled.Tie as tie
+
+abbrev Inv-loop : tie.InvT-loop
+Inv-loop area c from start w rows j₀ j = Skipped (nullIn c) area (rowsFrom start w rows) from j
+
+abbrev μ-loop : tie.MeasureT-loop
+μ-loop area c from start w rows j₀ j = rows - j
+
+loop-holds : tie.Need-loop-holds Inv-loop μ-loop
+loop-holds c = skip-start (nullIn (c .args .c)) (c .args .area .now) (c .args .table) (c .args .from) (c .pre .1 .0)
+
+sub-loop : tie.Need-sub-loop Inv-loop μ-loop
+sub-loop c = c .loop .inv .high
+
+four-null-requires : tie.Need-four-null-requires Inv-loop μ-loop
+four-null-requires c κs =
+    let s = c .before .before in
+    let fits = rows-fit (c .before .loop .j) (s .args .table .count) (s .args .table .width) (c .loop-test .taken) in
+    (s .pre .0 .some, (omega (arith, fits, s .pre .0 .within), s .pre .1 .1))
+
+returns : tie.Need-returns Inv-loop μ-loop
+returns c = c .before .before .before .loop .inv
+
+add-j : tie.Need-add-j Inv-loop μ-loop
+add-j c = omega (arith, c .before .before .before .before .pre .0 .few, c .before .before .loop-test .taken)
+
+loop-less : tie.Need-loop-less Inv-loop μ-loop
+loop-less c = omega (arith, c .before .before .loop-test .taken)
+
+loop-again : tie.Need-loop-again Inv-loop μ-loop
+loop-again c =
+    let s = c .before .before .before .before in
+    let l = c .before .before .before .loop in
+    skip-four (nullIn (s .args .c)) (s .args .area .now) (s .args .table) (s .args .from) (l .j) (l .inv) (c .before .before .loop-test .taken) (sym (c .before .four-null .ensures) ∙ c .if1 .left)
+
+returns-2 : tie.Need-returns-2 Inv-loop μ-loop
+returns-2 c = c .before .loop .inv
+
+pub skip-filled-spec : {M : Type 1} → statement M
+skip-filled-spec =
+    tie.close
+    (tie.spec
+    Inv-loop
+    μ-loop
+    loop-holds
+    sub-loop
+    four-null-requires
+    returns
+    add-j
+    loop-less
+    loop-again
+    returns-2)
