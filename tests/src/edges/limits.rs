@@ -96,9 +96,7 @@ fn restrict_at_16() -> Case {
         key((0, &[1]), (0, &[0]), CASCADE, NO_ACTION),
         key((1, &[0]), (0, &[0]), RESTRICT, NO_ACTION),
     ];
-    let above = |row: usize| row.checked_sub(1).map(|above| above as i64);
-    let row = |row: usize| insert(0, row, &[Some(row as i64), above(row)]);
-    let mut steps: Vec<Step> = (0..16).map(row).collect();
+    let mut steps = chain_rows(16);
     steps.extend([insert(1, 0, &[Some(15)]), delete(0, 0)]);
     Case {
         title: "RESTRICT met at depth 16 is RESTRICT, not too deep",

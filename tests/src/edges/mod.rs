@@ -4,18 +4,22 @@
 mod limits;
 mod lists;
 mod paper;
+mod searches;
 mod students;
 mod words;
 
 use crate::engine::{Engine, Orphan};
 use crate::inputs::calls::{plain_call, row_call};
 use crate::model::schema::{Schema, Value};
+use crate::model::search::Search;
 use crate::schema_bytes::records::Schema as Records;
 use words::{call_words, row_lines, schema_lines};
 
 /// What is done in a case.
 pub enum Step {
     Call(Vec<i64>),
+    /// Damages the area: the word at this place is set.
+    SetWord(usize, i64),
     /// Prints the live rows.
     ShowRows,
     /// Prints the orphan list as the engine gives it.
@@ -40,6 +44,7 @@ pub fn all() -> Vec<Case> {
         limits::cases(),
         students::cases(),
         lists::cases(),
+        searches::cases(),
     ]
     .into_iter()
     .flatten()
@@ -64,6 +69,10 @@ fn run(engine: &dyn Engine, case: &Case) -> Vec<String> {
             Step::Call(call) => {
                 let answer = engine.call(&bytes, &mut area, call).to_string();
                 lines.push(format!("  {:<40} {}", call_words(&schema, call), answer));
+            }
+            Step::SetWord(at, word) => {
+                area[*at] = *word;
+                lines.push(format!("  word {} of the area is set to {}", at, word));
             }
             Step::ShowRows => lines.extend(row_lines(&schema, &area)),
             Step::ShowOrphans => lines.push(orphan_line(engine, &bytes, &area)),
@@ -91,6 +100,13 @@ fn update(table: usize, row: usize, values: &[Value]) -> Step {
 
 fn delete(table: usize, row: usize) -> Step {
     Step::Call(row_call(3, table, row, &[]))
+}
+
+/// Inserts rows of which each refers to the one before it, the first to none.
+fn chain_rows(count: usize) -> Vec<Step> {
+    let above = |row: usize| row.checked_sub(1).map(|above| above as i64);
+    let row = |row: usize| insert(0, row, &[Some(row as i64), above(row)]);
+    (0..count).map(row).collect()
 }
 
 fn begin() -> Step {

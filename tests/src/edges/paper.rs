@@ -53,9 +53,7 @@ fn eight_calls() -> Case {
 
 /// Each row refers to the one before it; then the first is deleted.
 fn chain(title: &'static str, rows: u16, room: u16) -> Case {
-    let above = |row: usize| row.checked_sub(1).map(|above| above as i64);
-    let row = |row: usize| insert(0, row, &[Some(row as i64), above(row)]);
-    let mut steps: Vec<Step> = (0..rows as usize).map(row).collect();
+    let mut steps = chain_rows(rows.into());
     steps.push(delete(0, 0));
     Case {
         title,

@@ -1,7 +1,10 @@
 //! Schemas, calls and rows in words.
 
 use crate::model::area::Area;
+use crate::model::form;
+use crate::model::rules::Rules;
 use crate::model::schema::{Key, Schema, Table, Value};
+use crate::model::search::Search;
 
 pub fn schema_lines(schema: &Schema) -> Vec<String> {
     let tables = schema.tables.iter().enumerate();
@@ -69,8 +72,11 @@ fn values(row: &[Value]) -> String {
     format!("({})", shown.join(", "))
 }
 
-/// The call in words. Its words have the form of a call.
+/// The call in words; its numbers, without zeros at the end, where it has not the form of a call.
 pub fn call_words(schema: &Schema, call: &[i64]) -> String {
+    if form::read(&Rules::of_the_paper(), schema, call).is_none() {
+        return numbers(call);
+    }
     let place = || format!("table {} row {}", call[1], call[2]);
     let given = |column: usize| (call[3] >> column & 1 == 0).then_some(call[4 + column]);
     let row = || {
@@ -86,7 +92,37 @@ pub fn call_words(schema: &Schema, call: &[i64]) -> String {
         6 => format!("release level {}", call[1]),
         7 => format!("rollback to level {}", call[1]),
         8 => "rollback".into(),
-        _ => "commit".into(),
+        9 => "commit".into(),
+        _ => search_words(&Search::read(call)),
+    }
+}
+
+fn search_words(search: &Search) -> String {
+    let found = match search.sought {
+        Some(number) => format!("where c{} = {}", search.column, number),
+        None => format!("where c{} is NULL", search.column),
+    };
+    match search.set {
+        Some((set, new)) => {
+            let new = value(&new);
+            format!(
+                "update table {} set c{} = {} {}",
+                search.table, set, new, found
+            )
+        }
+        None => format!("delete in table {} {}", search.table, found),
+    }
+}
+
+fn numbers(call: &[i64]) -> String {
+    let used = call
+        .iter()
+        .rposition(|&word| word != 0)
+        .map_or(0, |last| last + 1);
+    let shown: Vec<String> = call[..used].iter().map(i64::to_string).collect();
+    match call.len() {
+        12 => format!("words {}", shown.join(" ")),
+        length => format!("{} words {}", length, shown.join(" ")),
     }
 }
 

@@ -4,6 +4,7 @@ use super::grounds::Ground;
 use crate::model::area::Area;
 use crate::model::keys::orphan_counts;
 use crate::model::rules::Rules;
+use crate::model::schema::Row;
 use crate::random::Random;
 
 /// Rows at random, with kept numbers that fit them or not, with levels and a journal or without.
@@ -115,21 +116,35 @@ pub fn state(r: &mut Random) -> i64 {
     }
 }
 
-/// A chain: row i has key i and refers to row i - 1, the first to none. Rows stand in any order.
+/// A chain: row i begins with i, each further column is one less, so it refers to row i - 1; the
+/// first refers to none, nor do the rows past the chain. Rows stand in any order. Inserts from the
+/// first on lead to it.
 pub fn chained(r: &mut Random, ground: &Ground) -> Vec<i64> {
     let mut area = Area {
         schema: &ground.schema,
         words: ground.fresh(),
     };
-    let rows = ground.schema.tables[0].rows;
-    let mut places: Vec<usize> = (0..rows).collect();
-    if r.once_in(2) {
-        r.shuffle(&mut places);
+    let table = &ground.schema.tables[0];
+    let mut places: Vec<usize> = (0..table.rows).collect();
+    match r.between(0, 2) {
+        0 => {}
+        1 => places.reverse(),
+        _ => r.shuffle(&mut places),
     }
-    let length = r.between(rows - 3, rows);
-    for (i, &place) in places[..length].iter().enumerate() {
-        let above = i.checked_sub(1).map(|above| above as i64);
-        area.put_row(0, place, Some(&vec![Some(i as i64), above]));
+    let length = if r.once_in(2) {
+        r.between(16, 18)
+    } else {
+        r.between(table.rows - 3, table.rows)
+    };
+    let live = r.pick(&[length, table.rows, table.rows]);
+    for (i, &place) in places[..live].iter().enumerate() {
+        let mut row: Row = (0..table.columns)
+            .map(|c| Some(i as i64 - c as i64))
+            .collect();
+        if i == 0 || i >= length {
+            row[table.columns - 1] = None;
+        }
+        area.put_row(0, place, Some(&row));
     }
     area.words
 }

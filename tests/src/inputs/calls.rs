@@ -1,6 +1,7 @@
 //! Well-formed calls at random.
 
 use super::grounds::Ground;
+use super::searches;
 use crate::model::area::Area;
 use crate::model::schema::{Row, Value};
 use crate::random::Random;
@@ -31,6 +32,8 @@ pub fn any(r: &mut Random, ground: &Ground, area: &[i64]) -> Vec<i64> {
     };
     if r.once_in(4) {
         transaction_call(r, area.words[0])
+    } else if r.once_in(3) {
+        searches::any(r, ground, &area).words()
     } else {
         change_call(r, ground, &area)
     }
@@ -86,7 +89,7 @@ fn change_call(r: &mut Random, ground: &Ground, area: &Area) -> Vec<i64> {
 }
 
 /// A row whose child keys are often those of a live parent row.
-fn new_row(r: &mut Random, ground: &Ground, area: &Area, table: usize) -> Row {
+pub fn new_row(r: &mut Random, ground: &Ground, area: &Area, table: usize) -> Row {
     let columns = 0..ground.schema.tables[table].columns;
     let mut row: Row = columns.map(|c| value(r, ground, table, c)).collect();
     let keys = ground.schema.keys.iter();
@@ -117,7 +120,7 @@ fn updated(r: &mut Random, ground: &Ground, area: &Area, table: usize, old: Opti
 }
 
 /// A value of the column, NULL seldom where that is not let pass.
-fn value(r: &mut Random, ground: &Ground, table: usize, column: usize) -> Value {
+pub fn value(r: &mut Random, ground: &Ground, table: usize, column: usize) -> Value {
     let not_null = ground.schema.tables[table].not_null.contains(&column);
     let null = r.once_in(if not_null { 30 } else { 6 });
     (!null).then(|| r.pick(&ground.values))

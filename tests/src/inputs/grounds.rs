@@ -32,10 +32,10 @@ impl Ground {
 
 /// A schema on which keys collide.
 pub fn collisions(r: &mut Random) -> Ground {
-    if r.once_in(3) {
-        tangled(r)
-    } else {
-        small(r)
+    match r.between(0, 8) {
+        0..=2 => tangled(r),
+        3..=5 => gathered(r),
+        _ => small(r),
     }
 }
 
@@ -98,15 +98,17 @@ fn key_mask(r: &mut Random, columns: usize) -> u8 {
     }
 }
 
-/// One table whose rows refer to each other, with room for chains of 17 rows and more.
+/// One table whose rows refer to each other, with room for chains of 17 rows and more. Its foreign
+/// key has one or two columns: it refers from those after the first column to those before the last.
 pub fn chain(r: &mut Random) -> Ground {
     let rows = r.between(18, 24);
+    let width = r.between(1, 2);
     let table = Table {
         rows: rows as u16,
-        columns: 2,
+        columns: 1 + width as u8,
         not_null: r.pick(&[0, 0, 1]),
-        unique: [1, 0, 0, 0],
-        default_null: 2,
+        unique: [low_bits(width), 0, 0, 0],
+        default_null: low_bits(width) << 1,
         zeros: [0; 7],
         defaults: [0; 8],
     };
@@ -116,15 +118,55 @@ pub fn chain(r: &mut Random) -> Ground {
         deferred: r.between(0, 1) as u8,
         on_delete: r.pick(&[4, 4, 4, 1, 2]),
         on_update: r.between(0, 4) as u8,
-        count: 1,
-        child_columns: four(&[1]),
-        parent_columns: four(&[0]),
+        count: width as u8,
+        child_columns: four(&[1, 2][..width]),
+        parent_columns: four(&[0, 1][..width]),
         zeros: [0; 2],
     };
     let keys = vec![key; r.pick(&[1, 1, 1, 2])];
-    let room = r.pick(&[8, 16, 17, 32, 40]);
+    let room = r.pick(&[8, 16, 17, 32, 40, 40]);
     let values = (0..=rows as i64).collect();
     Ground::new(Records::new(room, vec![table], keys), values)
+}
+
+/// One or two tables with a key in c0, foreign keys from c1 and c2 to such keys, and c3 in no key:
+/// many rows come to have one value in c3, so that one statement finds several parents.
+pub fn gathered(r: &mut Random) -> Ground {
+    let values: Vec<i64> = (0..=r.between(3, 6) as i64).collect();
+    let count = r.between(1, 2);
+    let tables = (0..count).map(|_| gathered_table(r, &values)).collect();
+    let keys = (0..r.between(1, 4)).map(|_| gathered_key(r, count));
+    let keys = keys.collect();
+    let room = r.pick(&[4, 8, 20, 40, 60]);
+    Ground::new(Records::new(room, tables, keys), values)
+}
+
+fn gathered_table(r: &mut Random, values: &[i64]) -> Table {
+    let mut defaults = [0; 8];
+    defaults[2] = r.pick(values);
+    Table {
+        rows: r.pick(&[4, 6, 8]),
+        columns: 4,
+        not_null: r.pick(&[0, 0, 2, 4, 6]),
+        unique: [1, 0, 0, 0],
+        default_null: 2,
+        zeros: [0; 7],
+        defaults,
+    }
+}
+
+fn gathered_key(r: &mut Random, tables: usize) -> Key {
+    Key {
+        child: r.between(0, tables - 1) as u8,
+        parent: r.between(0, tables - 1) as u8,
+        deferred: r.between(0, 1) as u8,
+        on_delete: r.between(0, 4) as u8,
+        on_update: r.between(0, 4) as u8,
+        count: 1,
+        child_columns: four(&[r.between(1, 2) as u8]),
+        parent_columns: four(&[0]),
+        zeros: [0; 2],
+    }
 }
 
 /// Keys of one width between one or two tables, their columns shared, their actions seldom NO

@@ -7,3 +7,4 @@ pub mod damages;
 pub mod grounds;
 pub mod malformed;
 pub mod orphan_grounds;
+pub mod searches;

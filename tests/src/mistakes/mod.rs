@@ -4,6 +4,7 @@
 mod actions;
 mod orphan_list;
 mod refusals;
+mod searches;
 mod transactions;
 mod worthless;
 
@@ -21,6 +22,7 @@ pub fn all() -> Vec<(&'static str, Box<dyn Engine>)> {
         refusals::ALL,
         transactions::ALL,
         orphan_list::ALL,
+        searches::ALL,
     ];
     let misread = lists.into_iter().flatten().map(|&(name, change)| {
         let mut model = Model::of_the_paper();

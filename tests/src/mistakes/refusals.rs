@@ -54,7 +54,10 @@ pub const ALL: &[Mistake] = &[
         });
     }),
     ("a refused statement leaves the journal's words", |rules| {
-        rules.refused = |_| {}
+        rules.refused = |area, entry| area.words.copy_from_slice(&entry.words);
+    }),
+    ("a refused statement leaves what it changed", |rules| {
+        rules.refused = |_, _| {}
     }),
     ("a row keeps its values when it is deleted", |rules| {
         rules.write = |area, table, row, new| {
@@ -129,8 +132,10 @@ fn set_end(rules: &mut Rules, holds: fn(&Area, usize) -> bool) {
 }
 
 /// Drops one condition of the form of a call.
-fn drop_form(rules: &mut Rules, name: &str) {
+pub fn drop_form(rules: &mut Rules, name: &str) {
+    let all = rules.call_forms.len();
     rules.call_forms.retain(|form| form.0 != name);
+    assert!(rules.call_forms.len() < all, "there is such a condition");
 }
 
 /// Replaces one condition of the form of an area.

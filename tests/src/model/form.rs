@@ -2,6 +2,7 @@
 
 use super::rules::Rules;
 use super::schema::{Row, Schema};
+use super::search::Search;
 
 pub enum Call {
     /// Insert, update or delete: table, row, and the new row where there is one.
@@ -14,48 +15,40 @@ pub enum Call {
     RollbackTo(usize),
     Rollback,
     Commit,
+    /// One statement for many rows.
+    Search(Search),
 }
 
-/// What must hold of the words of a call, with its name.
-pub type Form = (&'static str, fn(&Schema, &[i64]) -> bool);
+/// A condition's name, the kinds that it is asked for, and what must hold of a call's words.
+pub type Form = (&'static str, &'static [i64], fn(&Schema, &[i64]) -> bool);
 
-/// Each is asked only if those before it hold.
+/// Each is asked only if those before it hold; before all, the number of words and the kind.
 pub const FORMS: &[Form] = &[
-    ("twelve words", |_, call| call.len() == 12),
-    ("kind", |_, call| (1..=9).contains(&call[0])),
-    ("table and row", place_exists),
-    ("level", level_exists),
-    ("unused words", unused_words),
-    ("mask", mask_within),
-    ("values of NULL", values_of_null),
-    ("values of no column", values_of_no_column),
+    ("table and row", &[1, 2, 3], place_exists),
+    ("level", &[6, 7], |_, call| (1..=9).contains(&call[1])),
+    ("unused words", &[3], |_, call| zero(&call[3..])),
+    ("unused words", &[4, 5, 8, 9], |_, call| zero(&call[1..])),
+    ("unused words", &[6, 7], |_, call| zero(&call[2..])),
+    ("mask", &[1, 2], mask_within),
+    ("values of NULL", &[1, 2], values_of_null),
+    ("values of no column", &[1, 2], |schema, call| {
+        zero(&call[4 + columns(schema, call)..])
+    }),
 ];
+
+pub fn zero(words: &[i64]) -> bool {
+    words.iter().all(|&word| word == 0)
+}
 
 fn place_exists(schema: &Schema, call: &[i64]) -> bool {
     let table = usize::try_from(call[1]).ok();
     let rows = table.and_then(|t| schema.tables.get(t)).map(|t| t.rows);
-    call[0] > 3 || rows.map_or(false, |rows| (0..rows as i64).contains(&call[2]))
+    rows.map_or(false, |rows| (0..rows as i64).contains(&call[2]))
 }
 
-fn level_exists(_: &Schema, call: &[i64]) -> bool {
-    !matches!(call[0], 6 | 7) || (1..=9).contains(&call[1])
-}
-
-/// Kinds 1 to 3 use a and b, kinds 6 and 7 use a.
-fn unused_words(_: &Schema, call: &[i64]) -> bool {
-    match call[0] {
-        1..=3 => true,
-        6 | 7 => call[2] == 0,
-        _ => call[1] == 0 && call[2] == 0,
-    }
-}
-
-/// How many columns the call gives.
+/// How many columns the table has that the call names.
 fn columns(schema: &Schema, call: &[i64]) -> usize {
-    match call[0] {
-        1 | 2 => schema.tables[call[1] as usize].columns,
-        _ => 0,
-    }
+    schema.tables[call[1] as usize].columns
 }
 
 fn mask_within(schema: &Schema, call: &[i64]) -> bool {
@@ -66,13 +59,26 @@ fn values_of_null(_: &Schema, call: &[i64]) -> bool {
     (0..8).all(|i| call[3] >> i & 1 == 0 || call[4 + i] == 0)
 }
 
-fn values_of_no_column(schema: &Schema, call: &[i64]) -> bool {
-    (columns(schema, call)..8).all(|i| call[4 + i] == 0)
+/// The name of the first condition that the words break.
+pub fn broken(rules: &Rules, schema: &Schema, call: &[i64]) -> Option<&'static str> {
+    if call.len() != 12 {
+        return Some("twelve words");
+    }
+    if !(1..=11).contains(&call[0]) {
+        return Some("kind");
+    }
+    let mut asked = rules
+        .call_forms
+        .iter()
+        .filter(|(_, kinds, _)| kinds.contains(&call[0]));
+    asked
+        .find(|(_, _, holds)| !holds(schema, call))
+        .map(|form| form.0)
 }
 
 /// The call, if its words have the form of one.
 pub fn read(rules: &Rules, schema: &Schema, call: &[i64]) -> Option<Call> {
-    if !rules.call_forms.iter().all(|form| (form.1)(schema, call)) {
+    if broken(rules, schema, call).is_some() {
         return None;
     }
     let (a, b) = (call[1] as usize, call[2] as usize);
@@ -87,6 +93,7 @@ pub fn read(rules: &Rules, schema: &Schema, call: &[i64]) -> Option<Call> {
         6 => Call::Release(a),
         7 => Call::RollbackTo(a),
         8 => Call::Rollback,
-        _ => Call::Commit,
+        9 => Call::Commit,
+        _ => Call::Search(Search::read(call)),
     })
 }

@@ -9,15 +9,18 @@ pub mod list;
 pub mod program;
 pub mod rules;
 pub mod schema;
+pub mod search;
 pub mod statement;
 pub mod strike;
 pub mod transaction;
 
 use crate::engine::{Answer, Engine, Listed, Orphan};
 use area::Area;
+use change::Change;
 use form::Call;
 use rules::Rules;
 use schema::Schema;
+use statement::Outcome;
 
 pub struct Model {
     pub rules: Rules,
@@ -31,7 +34,7 @@ impl Model {
     }
 
     /// Rows changed and net, or a refusal, in the order 1, 2, 3, 4, 10, then those of the call.
-    fn step(&self, schema: &[u8], area: &mut [i64], call: &[i64]) -> Result<(i64, i64), i64> {
+    fn step(&self, schema: &[u8], area: &mut [i64], call: &[i64]) -> Outcome {
         let schema = Schema::read(schema)?;
         let mut book = of_length(&schema, area)?;
         let call = form::read(&self.rules, &schema, call).ok_or(4)?;
@@ -46,7 +49,7 @@ impl Model {
         whole.then_some(()).ok_or(10)
     }
 
-    fn act(&self, area: &mut Area, call: Call) -> Result<(i64, i64), i64> {
+    fn act(&self, area: &mut Area, call: Call) -> Outcome {
         let rules = &self.rules;
         match call {
             Call::Insert(table, row, new) => self.change(area, table, row, Some(new), false),
@@ -58,6 +61,9 @@ impl Model {
             Call::RollbackTo(level) => transaction::rollback_to(rules, area, level),
             Call::Rollback => transaction::rollback(rules, area),
             Call::Commit => transaction::commit(rules, area),
+            Call::Search(search) => statement::run(rules, area, |area| {
+                search::change_rows(rules, area, &search)
+            }),
         }
     }
 
@@ -69,11 +75,19 @@ impl Model {
         row: usize,
         new: Option<schema::Row>,
         live: bool,
-    ) -> Result<(i64, i64), i64> {
+    ) -> Outcome {
         if area.row(table, row).is_some() != live {
             return Err(11);
         }
-        statement::run(&self.rules, area, table, row, new)
+        let own = Change {
+            depth: 1,
+            table,
+            row,
+            new,
+        };
+        statement::run(&self.rules, area, |area| {
+            change::make(&self.rules, area, &own)
+        })
     }
 
     /// The orphans of an area in the sequence of the list, or refusal 1, 2, 3 or 10.

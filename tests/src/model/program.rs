@@ -22,7 +22,7 @@ pub fn text(model: &Model, input: &[u8]) -> String {
 }
 
 /// As many bytes as the length field says, or all there are.
-fn schema_length(input: &[u8]) -> usize {
+pub fn schema_length(input: &[u8]) -> usize {
     match input.get(14..16) {
         Some(field) => input.len().min(field[0] as usize + 256 * field[1] as usize),
         None => input.len(),

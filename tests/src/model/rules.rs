@@ -8,7 +8,8 @@ use super::form;
 use super::keys;
 use super::list;
 use super::schema::{Action, Key, Row, Schema};
-use super::statement::{self, End};
+use super::search::{self, Search};
+use super::statement::{self, End, Outcome};
 use super::transaction;
 use crate::engine::Orphan;
 
@@ -38,12 +39,22 @@ pub struct Rules {
     pub image: fn(&Schema, &Key, Action, &Row, Option<&Row>) -> Option<Row>,
     /// Writes a row change: journal and row.
     pub write: fn(&mut Area, usize, usize, Option<&Row>),
+    /// The rows that come to their turn in one statement for many rows.
+    pub rows_sought: fn(&Area, &Search) -> Vec<usize>,
+    /// The row of this number, if it is met: the area when the statement began, and as it is.
+    pub met: fn(&Area, &Area, &Search, usize) -> Option<Row>,
+    /// The depth of a row that is met.
+    pub depth_of_met: usize,
+    /// What is judged after each row that is met: the area when the statement began, and as it is.
+    pub between_rows: fn(&Rules, &Area, &Area) -> Result<(), i64>,
+    /// The end of a statement: the area when it began, and after its row changes.
+    pub settle: fn(&Rules, &Area, &mut Area) -> Outcome,
     /// By how much the kept numbers move: the area before and after.
     pub moves: fn(&Rules, &Area, &Area) -> Vec<i64>,
     /// Rows changed, from the journal use before and after.
     pub changed: fn(usize, usize) -> i64,
-    /// What a refusal inside a statement leaves in the area at entry.
-    pub refused: fn(&mut Area),
+    /// What a refusal inside a statement leaves: the area then, and when the statement began.
+    pub refused: fn(&mut Area, &Area),
     /// Opens a level: the word for what opened the transaction.
     pub open: fn(&mut Area, i64),
     /// How many levels can be open.
@@ -77,7 +88,7 @@ pub struct Rules {
 impl Rules {
     pub fn of_the_paper() -> Rules {
         Rules {
-            call_forms: form::FORMS.to_vec(),
+            call_forms: [form::FORMS, search::FORMS].concat(),
             area_forms: damage::FORMS.to_vec(),
             checks: change::CHECKS.to_vec(),
             ends: statement::ENDS.to_vec(),
@@ -89,9 +100,14 @@ impl Rules {
             turns: |area, key, _| (0..area.schema.tables[key.child].rows).collect(),
             image: change::image,
             write: change::write,
+            rows_sought: search::rows,
+            met: |_, area, search, row| search::met(area, search, row),
+            depth_of_met: 1,
+            between_rows: |_, _, _| Ok(()),
+            settle: statement::settle,
             moves: statement::moves,
             changed: |before, after| (after - before) as i64,
-            refused: |area| area.zero_journal_from(area.used()),
+            refused: statement::put_back,
             open: transaction::open,
             most_levels: 9,
             reachable: transaction::reachable,

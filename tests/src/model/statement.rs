@@ -1,10 +1,11 @@
-//! A statement: a row change, then the kept numbers.
+//! A statement: row changes, then the kept numbers.
 
 use super::area::Area;
-use super::change::{self, Change};
 use super::keys::orphan_counts;
 use super::rules::Rules;
-use super::schema::Row;
+
+/// Rows changed and net, or a refusal.
+pub type Outcome = Result<(i64, i64), i64>;
 
 /// A check of one foreign key at the end of a statement, and the refusal where it does not hold.
 pub type End = (i64, fn(&Area, usize) -> bool);
@@ -28,33 +29,30 @@ pub fn moves(rules: &Rules, before: &Area, after: &Area) -> Vec<i64> {
     pairs.map(|(before, after)| after - before).collect()
 }
 
-/// Runs the statement that writes this row. Gives rows changed and net.
+/// Runs the statement that makes these row changes. Refused, all is put back.
 pub fn run(
     rules: &Rules,
     area: &mut Area,
-    table: usize,
-    row: usize,
-    new: Option<Row>,
-) -> Result<(i64, i64), i64> {
+    changes: impl FnOnce(&mut Area) -> Result<(), i64>,
+) -> Outcome {
     let entry = area.clone();
-    let own = Change {
-        depth: 1,
-        table,
-        row,
-        new,
-    };
-    let outcome = attempt(rules, area, &own);
+    let outcome = changes(area).and_then(|()| (rules.settle)(rules, &entry, area));
     if outcome.is_err() {
-        *area = entry;
-        (rules.refused)(area);
+        (rules.refused)(area, &entry);
     }
     outcome
 }
 
-fn attempt(rules: &Rules, area: &mut Area, own: &Change) -> Result<(i64, i64), i64> {
-    let entry = area.clone();
-    change::make(rules, area, own)?;
-    let moves = (rules.moves)(rules, &entry, area);
+/// All is as when the statement began, but for the journal's words past the records in use: zero.
+pub fn put_back(area: &mut Area, entry: &Area) {
+    area.words.copy_from_slice(&entry.words);
+    area.zero_journal_from(area.used());
+}
+
+/// The end of a statement, given the area when it began: the kept numbers move and are judged;
+/// outside a transaction the journal is then emptied.
+pub fn settle(rules: &Rules, entry: &Area, area: &mut Area) -> Outcome {
+    let moves = (rules.moves)(rules, entry, area);
     for (kept, by) in area.kept_mut().iter_mut().zip(&moves) {
         *kept += by;
     }

@@ -10,6 +10,7 @@ pub fn left(calls: &[Vec<i64>], codes: &[i64]) -> Vec<usize> {
         }
         let level = call[1] as usize;
         match call[0] {
+            1..=3 | 10 | 11 => line.push(number),
             4 | 5 => {
                 line.push(number);
                 marks.push(line.len());
@@ -30,7 +31,7 @@ pub fn left(calls: &[Vec<i64>], codes: &[i64]) -> Vec<usize> {
                 line.push(number);
                 marks.clear();
             }
-            _ => line.push(number),
+            _ => unreachable!("a call of another kind is refused"),
         }
     }
     line

@@ -2,9 +2,7 @@
 
 use super::area::Area;
 use super::rules::Rules;
-
-/// Rows changed and net, or a refusal.
-type Outcome = Result<(i64, i64), i64>;
+use super::statement::Outcome;
 
 const BY_BEGIN: i64 = 1;
 const BY_SAVEPOINT: i64 = 2;

@@ -22,6 +22,7 @@ extern "C" {
     fn sqlite3_errmsg(db: *mut Handle) -> *const c_char;
     fn sqlite3_libversion() -> *const c_char;
     fn sqlite3_changes(db: *mut Handle) -> c_int;
+    fn sqlite3_total_changes(db: *mut Handle) -> c_int;
     fn sqlite3_prepare_v2(
         db: *mut Handle,
         sql: *const c_char,
@@ -90,6 +91,12 @@ impl Connection {
     pub fn changes(&self) -> i32 {
         // SAFETY: the connection is open.
         unsafe { sqlite3_changes(self.db) }
+    }
+
+    /// How many rows all inserts, updates and deletes changed, those by actions included.
+    pub fn total_changes(&self) -> i64 {
+        // SAFETY: the connection is open.
+        i64::from(unsafe { sqlite3_total_changes(self.db) })
     }
 
     fn message(&self) -> String {

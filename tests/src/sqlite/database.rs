@@ -6,6 +6,7 @@ use super::statements;
 use crate::engine::Orphan;
 use crate::model::form::Call;
 use crate::model::schema::{Row, Schema, Value};
+use crate::model::search::Search;
 
 /// The statements of one table.
 struct Table {
@@ -44,9 +45,17 @@ impl Database {
         }
     }
 
+    /// The rows changed, those by actions included, if SQLite accepts the call; what a rollback
+    /// undoes it does not tell.
+    pub fn call(&mut self, call: &Call) -> Option<i64> {
+        let before = self.connection.total_changes();
+        let accepted = self.accepts(call);
+        accepted.then(|| self.connection.total_changes() - before)
+    }
+
     /// Whether SQLite accepts the call. An update or a deletion of no row, which it lets pass, is
     /// refused here.
-    pub fn call(&mut self, call: &Call) -> bool {
+    fn accepts(&mut self, call: &Call) -> bool {
         match call {
             Call::Insert(table, row, new) => self.change(|t| &t.insert, *table, *row, new),
             Call::Update(table, row, new) => self.change(|t| &t.update, *table, *row, new),
@@ -57,6 +66,7 @@ impl Database {
             Call::RollbackTo(level) => self.level(format!("ROLLBACK TO l{}", level), *level),
             Call::Rollback => self.level("ROLLBACK".into(), 0),
             Call::Commit => self.level("COMMIT".into(), 0),
+            Call::Search(search) => self.search(search),
         }
     }
 
@@ -74,6 +84,15 @@ impl Database {
         statement.run() && self.connection.changes() == 1
     }
 
+    /// One statement for many rows. That it finds no row is no cause to refuse.
+    fn search(&self, search: &Search) -> bool {
+        let columns = self.tables[search.table].columns;
+        let sql = statements::search(search, columns);
+        let statement = self.connection.prepare(&sql);
+        statement.bind(&statements::search_values(search));
+        statement.run()
+    }
+
     /// Runs a statement after which this many levels are open.
     fn level(&mut self, sql: String, open: usize) -> bool {
         let accepted = self.connection.prepare(&sql).run();
@@ -81,6 +100,10 @@ impl Database {
             self.open = open;
         }
         accepted
+    }
+
+    pub fn in_transaction(&self) -> bool {
+        self.open > 0
     }
 
     /// The rows of a table with their numbers, rising.

@@ -1,6 +1,7 @@
 //! SQL text of a schema.
 
-use crate::model::schema::{Key, Schema, Table};
+use crate::model::schema::{Key, Schema, Table, Value};
+use crate::model::search::Search;
 
 /// A table with the row number `r` and columns `c0` onwards. SQLite numbers and runs the foreign
 /// keys declared last first, so they are declared from the last to the first.
@@ -62,6 +63,31 @@ pub fn update(number: usize, columns: usize) -> String {
 
 pub fn delete(number: usize) -> String {
     format!("DELETE FROM t{} WHERE r=?1", number)
+}
+
+/// A deletion or an update of every row found. Without an index SQLite finds rows by their number.
+/// Columns that are not to be set are set to what they hold: an update of the parent column alone
+/// by which an orphan becomes its own parent can lower SQLite's count of violations by two.
+pub fn search(search: &Search, columns: usize) -> String {
+    let column = search.column;
+    let found = match search.sought {
+        Some(_) => format!("c{}=?1", column),
+        None => format!("c{} IS NULL", column),
+    };
+    let table = format!("t{} NOT INDEXED", search.table);
+    let (set, _) = match search.set {
+        Some(set) => set,
+        None => return format!("DELETE FROM {} WHERE {}", table, found),
+    };
+    let mut sets: Vec<String> = (0..columns).map(|c| format!("c{}=c{}", c, c)).collect();
+    sets[set] = format!("c{}=?2", set);
+    format!("UPDATE {} SET {} WHERE {}", table, sets.join(","), found)
+}
+
+/// The parameters of that statement.
+pub fn search_values(search: &Search) -> Vec<Value> {
+    let new = search.set.map(|(_, value)| value);
+    [Some(search.sought), new].into_iter().flatten().collect()
 }
 
 /// All rows, by number.

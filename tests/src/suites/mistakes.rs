@@ -27,7 +27,7 @@ const PARTS: &[Part] = &[
     }),
     ("SQLite", |engine, r| {
         let mut alike = Alike::new();
-        (0..60).any(|_| alike.trial(engine, r).is_err())
+        (0..40).any(|_| alike.trial(engine, r).is_err())
     }),
 ];
 

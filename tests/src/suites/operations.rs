@@ -1,14 +1,22 @@
 //! The built engine against the model on single operations.
 
 use crate::engine::Built;
+use crate::model::search;
 use crate::random::Random;
 use crate::report::Report;
 use crate::trials::lent_list;
 use crate::trials::operations::Operations;
+use crate::trials::origins::ORIGINS;
+use crate::trials::search_situations::SITUATIONS;
+use crate::trials::searches::{self, OfKind, Searches};
 
 /// How many calls there are to be, and how many calls and orphan lists of each code.
 const LEAST_CALLS: usize = 300_000;
 const LEAST_OF_A_CODE: usize = 100;
+
+/// How often each code and condition of kinds 10 and 11 is to be met, and each situation.
+const LEAST_OF_SEARCHES: usize = 10;
+const LEAST_OF_A_SITUATION: usize = 3;
 
 /// The codes that a call can be answered by.
 const CODES: &[i64] = &[
@@ -33,4 +41,35 @@ pub fn run(r: &mut Random, report: &mut Report) {
     report.counts("calls by code", LEAST_OF_A_CODE, &calls.of(CODES));
     let lists = lists.of(lent_list::CODES);
     report.counts("orphan lists by code", LEAST_OF_A_CODE, &lists);
+    report_searches(report, &operations.searches);
+}
+
+/// What was met in calls of kinds 10 and 11.
+fn report_searches(report: &mut Report, searches: &Searches) {
+    for (kind, of_kind) in (10..).zip(&searches.of_kind) {
+        report_kind(report, kind, of_kind);
+    }
+    for &(name, origin) in ORIGINS {
+        let seen = SITUATIONS
+            .iter()
+            .filter(|situation| situation.1.contains(&origin));
+        let names: Vec<&str> = seen.map(|situation| situation.0).collect();
+        let met = searches.met[origin as usize].of(&names);
+        let title = format!("kinds 10 and 11 on {}", name);
+        report.counts(&title, LEAST_OF_A_SITUATION, &met);
+    }
+}
+
+fn report_kind(report: &mut Report, kind: i64, of_kind: &OfKind) {
+    let forms = search::FORMS.iter().filter(|form| form.1.contains(&kind));
+    let conditions: Vec<&str> = forms.map(|form| form.0).collect();
+    let counts = [
+        ("by code", of_kind.codes.of(searches::CODES)),
+        ("by rows changed", of_kind.changed.of(searches::CHANGED)),
+        ("refused by 4 for", of_kind.broken.of(&conditions)),
+    ];
+    for (title, counts) in counts {
+        let title = format!("kind {} {}", kind, title);
+        report.counts(&title, LEAST_OF_SEARCHES, &counts);
+    }
 }

@@ -4,7 +4,8 @@ use crate::engine::Built;
 use crate::random::Random;
 use crate::report::Report;
 use crate::trials::lent_list;
-use crate::trials::orphan_lists::{Origin, OrphanLists};
+use crate::trials::origins::ORIGINS;
+use crate::trials::orphan_lists::OrphanLists;
 use crate::trials::situations::SITUATIONS;
 
 /// How many lists there are to be, how long the longest, and how many of each code and situation.
@@ -12,12 +13,6 @@ const LEAST_LISTS: usize = 20_000;
 const LEAST_LONGEST: usize = 5_000;
 const LEAST_OF_A_CODE: usize = 100;
 const LEAST_OF_A_SITUATION: usize = 10;
-
-const ORIGINS: &[(&str, Origin)] = &[
-    ("lists on reached areas", Origin::Reached),
-    ("lists on filled areas", Origin::Filled),
-    ("lists on damaged areas", Origin::Damaged),
-];
 
 pub fn run(r: &mut Random, report: &mut Report) {
     let mut trials = OrphanLists::new();
@@ -39,8 +34,8 @@ pub fn run(r: &mut Random, report: &mut Report) {
         &trials.lists.codes.of(lent_list::CODES),
     );
     let situations: Vec<&str> = SITUATIONS.iter().map(|situation| situation.0).collect();
-    for (title, origin) in ORIGINS {
+    for (name, origin) in ORIGINS {
         let met = trials.met[*origin as usize].of(&situations);
-        report.counts(title, LEAST_OF_A_SITUATION, &met);
+        report.counts(&format!("lists on {}", name), LEAST_OF_A_SITUATION, &met);
     }
 }

@@ -5,7 +5,7 @@ use crate::model::program::text;
 use crate::model::Model;
 use crate::random::Random;
 use crate::report::Report;
-use crate::trials::program::{bytes_of, output, random_input, test_file};
+use crate::trials::program::{bytes_of, output, random_input, searches_in, test_file};
 use std::fs;
 
 type Outcome = Result<(), String>;
@@ -22,6 +22,7 @@ const STORED: &[&str] = &[
 ];
 
 const RANDOM_INPUTS: usize = 1_500;
+const LEAST_SEARCHES: usize = 10_000;
 
 pub fn run(r: &mut Random, report: &mut Report) {
     for name in STORED {
@@ -29,16 +30,20 @@ pub fn run(r: &mut Random, report: &mut Report) {
     }
     report.test("hoofrun: the paper's calls cut at each byte", cut());
     let mut outcome = Ok(());
-    let mut inputs = 0;
+    let (mut inputs, mut searches) = (0, 0);
     while outcome.is_ok() && inputs < RANDOM_INPUTS {
-        outcome = against_model(&random_input(r));
+        let input = random_input(r);
+        searches += searches_in(&input);
+        outcome = against_model(&input);
         inputs += 1;
     }
     println!(
-        "{} random inputs of hoofrun compared with the model",
-        inputs
+        "{} random inputs of hoofrun compared with the model: {} calls of kinds 10 and 11",
+        inputs, searches
     );
     report.test("hoofrun: random inputs", outcome);
+    let name = "hoofrun: calls of kinds 10 and 11";
+    report.at_least(name, LEAST_SEARCHES, searches);
 }
 
 fn read(name: &str) -> Result<String, String> {

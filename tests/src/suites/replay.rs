@@ -5,9 +5,11 @@ use crate::random::Random;
 use crate::report::Report;
 use crate::trials::replay::Replay;
 
-/// How many lists there are to be, and how many that end inside a transaction.
+/// How many lists there are to be, how many that end inside a transaction, and how many calls of
+/// kinds 10 and 11 that striking out leaves, and that it does not.
 const LEAST_LISTS: usize = 3_000;
 const LEAST_OPEN: usize = 300;
+const LEAST_SEARCHES: usize = 10_000;
 
 pub fn run(r: &mut Random, report: &mut Report) {
     let mut replay = Replay::new();
@@ -19,6 +21,10 @@ pub fn run(r: &mut Random, report: &mut Report) {
         "{} lists replayed: {} calls, {} left by striking out, {} lists end inside a transaction",
         replay.lists, replay.calls, replay.left, replay.open
     );
+    println!(
+        "of kinds 10 and 11: {} calls, {} left by striking out",
+        replay.searches, replay.searches_left
+    );
     report.test("lists replayed", outcome);
     report.at_least("lists", LEAST_LISTS, replay.lists);
     report.at_least(
@@ -26,4 +32,12 @@ pub fn run(r: &mut Random, report: &mut Report) {
         LEAST_OPEN,
         replay.open,
     );
+    let struck = replay.searches - replay.searches_left;
+    for (name, count) in [
+        ("left", replay.searches_left),
+        ("struck or refused", struck),
+    ] {
+        let name = format!("calls of kinds 10 and 11 {}", name);
+        report.at_least(&name, LEAST_SEARCHES, count);
+    }
 }

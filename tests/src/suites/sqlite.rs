@@ -4,11 +4,18 @@ use crate::engine::Built;
 use crate::random::Random;
 use crate::report::Report;
 use crate::sqlite::database::version;
+use crate::trials::searches;
 use crate::trials::sqlite::Alike;
 
 /// How many calls there are to be, and how many that are accepted.
 const LEAST_CALLS: usize = 60_000;
 const LEAST_ACCEPTED: usize = 20_000;
+
+/// How many calls at most SQLite may accept by a miscount of its own.
+const MOST_MISCOUNTED: usize = 20;
+
+/// How many calls of kinds 10 and 11 that are refused, or that change no row, one, or more.
+const LEAST_SEARCHES: usize = 500;
 
 /// How many orphan lists there are to be, and how many with orphans.
 const LEAST_LISTS: usize = 10_000;
@@ -21,12 +28,19 @@ pub fn run(r: &mut Random, report: &mut Report) {
         outcome = alike.trial(&Built, r);
     }
     println!(
-        "{} calls compared with SQLite {}: {} accepted; left out: {} by order, {} by limits",
+        "{} calls compared with SQLite {}: {} accepted, {} of them by a miscount of its own; \
+         left out: {} by order, {} by limits",
         alike.calls,
         version(),
         alike.accepted,
+        alike.miscounted,
         alike.by_order,
         alike.by_limit
+    );
+    println!(
+        "{} of kinds 10 and 11, {} refused",
+        alike.searches.sum() + alike.searches_refused,
+        alike.searches_refused
     );
     println!(
         "{} orphan lists compared with SQLite: {} with orphans",
@@ -35,6 +49,17 @@ pub fn run(r: &mut Random, report: &mut Report) {
     report.test("calls and orphan lists compared with SQLite", outcome);
     report.at_least("calls sent to SQLite", LEAST_CALLS, alike.calls);
     report.at_least("calls that SQLite accepts", LEAST_ACCEPTED, alike.accepted);
+    let few = alike.miscounted <= MOST_MISCOUNTED;
+    let outcome = few.then_some(()).ok_or(format!("{}", alike.miscounted));
+    report.test("calls that SQLite accepts by a miscount are few", outcome);
+    let changed = alike.searches.of(searches::CHANGED);
+    let title = "kinds 10 and 11 of SQLite by rows changed";
+    report.counts(title, LEAST_SEARCHES, &changed);
+    report.at_least(
+        "kinds 10 and 11 that SQLite refuses",
+        LEAST_SEARCHES,
+        alike.searches_refused,
+    );
     report.at_least("orphan lists of SQLite", LEAST_LISTS, alike.lists);
     report.at_least(
         "orphan lists of SQLite with orphans",

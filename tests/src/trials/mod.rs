@@ -2,8 +2,11 @@
 
 pub mod lent_list;
 pub mod operations;
+pub mod origins;
 pub mod orphan_lists;
 pub mod program;
 pub mod replay;
+pub mod search_situations;
+pub mod searches;
 pub mod situations;
 pub mod sqlite;

@@ -1,6 +1,8 @@
 //! Single operations: an engine against the model, answer, every word and every record.
 
 use super::lent_list::LentLists;
+use super::origins::Origin;
+use super::searches::Searches;
 use crate::counts::Counts;
 use crate::differences::{hex, of_call, words};
 use crate::engine::Engine;
@@ -16,6 +18,8 @@ pub struct Operations {
     model: Model,
     /// How many calls had each code.
     pub calls: Counts<i64>,
+    /// The calls of kinds 10 and 11 among them.
+    pub searches: Searches,
     pub lists: LentLists,
     pub others: usize,
 }
@@ -25,6 +29,7 @@ impl Operations {
         Operations {
             model: Model::of_the_paper(),
             calls: Counts::default(),
+            searches: Searches::new(),
             lists: LentLists::new(),
             others: 0,
         }
@@ -33,13 +38,13 @@ impl Operations {
     /// Operations on one schema: from an area to the next by calls, and beside them on damaged
     /// copies.
     pub fn trial(&mut self, engine: &dyn Engine, r: &mut Random) -> Outcome {
-        let (ground, mut area, turns) = start(r);
+        let (ground, mut area, turns, origin) = start(r);
         for _ in 0..turns {
             let mut call = calls::any(r, &ground, &area);
             if r.once_in(8) {
                 call = malformed::spoiled(r, &ground, call);
             }
-            area = self.call(engine, &ground.bytes, &area, &call)?;
+            area = self.call(engine, (&ground.bytes, &area, &call), origin)?;
             self.beside(engine, r, &ground, &area)?;
         }
         Ok(())
@@ -49,16 +54,16 @@ impl Operations {
     fn beside(&mut self, engine: &dyn Engine, r: &mut Random, g: &Ground, area: &[i64]) -> Outcome {
         let damaged = damages::damaged(r, g, area);
         let call = calls::any(r, g, &damaged);
-        self.call(engine, &g.bytes, &damaged, &call)?;
+        self.call(engine, (&g.bytes, &damaged, &call), Origin::Damaged)?;
         if r.once_in(10) {
             let area = damages::of_wrong_length(r, area);
-            self.call(engine, &g.bytes, &area, &call)?;
+            self.call(engine, (&g.bytes, &area, &call), Origin::Damaged)?;
             self.fresh(engine, &g.bytes, &area)?;
             self.lists.compare(engine, r, &g.bytes, &area)?;
         }
         if r.once_in(10) {
             let schema = broken(r, g);
-            self.call(engine, &schema, area, &call)?;
+            self.call(engine, (&schema, area, &call), Origin::Damaged)?;
             self.fresh(engine, &schema, area)?;
             self.lists.compare(engine, r, &schema, area)?;
         }
@@ -76,14 +81,14 @@ impl Operations {
     fn call(
         &mut self,
         engine: &dyn Engine,
-        schema: &[u8],
-        area: &[i64],
-        call: &[i64],
+        (schema, area, call): (&[u8], &[i64], &[i64]),
+        origin: Origin,
     ) -> Result<Vec<i64>, String> {
         let (mut found_words, mut expected_words) = (area.to_vec(), area.to_vec());
         let found = engine.call(schema, &mut found_words, call);
         let expected = self.model.call(schema, &mut expected_words, call);
         self.calls.add(expected.code);
+        self.searches.count((schema, area, call), expected, origin);
         if found == expected && found_words == expected_words {
             return Ok(expected_words);
         }
@@ -116,28 +121,28 @@ impl Operations {
     }
 }
 
-/// A schema, an area of it, and how many calls are made from there on.
-fn start(r: &mut Random) -> (Ground, Vec<i64>, usize) {
+/// A schema, an area of it, how many calls are made from there on, and where the area comes from.
+fn start(r: &mut Random) -> (Ground, Vec<i64>, usize, Origin) {
     match r.between(0, 39) {
         0 => {
             let ground = grounds::large(r);
             let area = areas::filled(r, &ground);
-            (ground, area, 4)
+            (ground, area, 4, Origin::Filled)
         }
-        1..=13 => {
+        1..=20 => {
             let ground = grounds::chain(r);
             let area = areas::chained(r, &ground);
-            (ground, area, 4)
+            (ground, area, 4, Origin::Reached)
         }
-        14..=26 => {
+        21..=31 => {
             let ground = grounds::collisions(r);
             let area = areas::filled(r, &ground);
-            (ground, area, 10)
+            (ground, area, 20, Origin::Filled)
         }
         _ => {
             let ground = grounds::collisions(r);
             let area = ground.fresh();
-            (ground, area, 60)
+            (ground, area, 60, Origin::Reached)
         }
     }
 }

@@ -2,6 +2,7 @@
 //! damaged ones.
 
 use super::lent_list::LentLists;
+use super::origins::Origin;
 use super::situations;
 use crate::counts::Counts;
 use crate::engine::Engine;
@@ -11,14 +12,6 @@ use crate::inputs::{areas, calls, damages, orphan_grounds};
 use crate::random::Random;
 
 type Outcome = Result<(), String>;
-
-/// Where an area comes from. Filled and damaged areas, most of them, are not reachable by calls.
-#[derive(Clone, Copy)]
-pub enum Origin {
-    Reached,
-    Filled,
-    Damaged,
-}
 
 pub struct OrphanLists {
     pub lists: LentLists,

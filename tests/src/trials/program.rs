@@ -4,6 +4,7 @@ use crate::engine::Engine;
 use crate::inputs::calls;
 use crate::inputs::grounds::{self, Ground};
 use crate::inputs::malformed;
+use crate::model::program::schema_length;
 use crate::model::Model;
 use crate::random::Random;
 use std::fs::{self, File};
@@ -67,6 +68,14 @@ pub fn random_input(r: &mut Random) -> Vec<u8> {
         _ => {}
     }
     input
+}
+
+/// How many calls of kinds 10 and 11 an input has.
+pub fn searches_in(input: &[u8]) -> usize {
+    let calls = input[schema_length(input)..].chunks_exact(96);
+    let kind =
+        |call: &[u8]| i64::from_le_bytes(call[..8].try_into().expect("a word has eight bytes"));
+    calls.filter(|call| matches!(kind(call), 10 | 11)).count()
 }
 
 /// The bytes of calls that suit the area as it comes to be.

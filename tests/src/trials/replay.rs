@@ -1,5 +1,6 @@
 //! Demand 3 on an engine: a list of calls, and what striking out leaves of it, end alike.
 
+use super::searches::is_search;
 use crate::differences::{first_words, hex};
 use crate::engine::{Answer, Engine};
 use crate::inputs::calls::{self, plain_call};
@@ -18,6 +19,9 @@ pub struct Replay {
     pub calls: usize,
     /// How many calls were left by striking out.
     pub left: usize,
+    /// How many of both were of kinds 10 and 11.
+    pub searches: usize,
+    pub searches_left: usize,
     /// How many lists ended inside a transaction.
     pub open: usize,
 }
@@ -37,6 +41,8 @@ impl Replay {
             lists: 0,
             calls: 0,
             left: 0,
+            searches: 0,
+            searches_left: 0,
             open: 0,
         }
     }
@@ -53,6 +59,9 @@ impl Replay {
         self.lists += 1;
         self.calls += run.calls.len();
         self.left += left.len();
+        self.searches += run.calls.iter().filter(|call| is_search(call)).count();
+        let searches_left = left.iter().filter(|&&number| is_search(&run.calls[number]));
+        self.searches_left += searches_left.count();
         self.open += usize::from(run.area[0] != 0);
         second_run(engine, &ground, &run, &left)
     }

@@ -1,11 +1,16 @@
-//! An engine against stock SQLite on lists of calls: accepted or refused, the rows, and after some
-//! calls the orphan list.
+//! An engine against stock SQLite on lists of calls: accepted or refused, how many rows are changed,
+//! the rows, and after some calls the orphan list.
 //!
-//! The rule by which calls are left out: a call is sent to neither where the model refuses it by a
-//! limit (13, 14, 15), or where another order of foreign keys or of rows would give another outcome.
+//! The rule by which calls are left out: a call is sent to neither where the model, in the paper's
+//! order or in another order of foreign keys or of rows, refuses it by a limit (13, 14, 15), or
+//! where another order gives another outcome. Among statements for many rows that leaves out those
+//! in which the change of one row decides about another: SQLite lists the rows first, then changes
+//! those that are still there, whatever they hold by then.
 //! SQLite lists orphans in a sequence of its own: they are sorted, and the engine's are taken as
 //! they come.
 
+use super::searches::{how_many, is_search};
+use crate::counts::Counts;
 use crate::differences::hex;
 use crate::engine::{Answer, Engine, Orphan};
 use crate::inputs::calls;
@@ -15,6 +20,7 @@ use crate::model::form;
 use crate::model::keys::having;
 use crate::model::rules::Rules;
 use crate::model::schema::{Key, Row};
+use crate::model::search;
 use crate::model::Model;
 use crate::random::Random;
 use crate::sqlite::database::Database;
@@ -22,14 +28,21 @@ use std::cmp::Reverse;
 
 type Outcome = Result<(), String>;
 
+/// The answer to a call, and the area after it.
+type Made = (Answer, Vec<i64>);
+
 pub struct Alike {
-    model: Model,
-    /// The model with other orders of foreign keys and of rows.
-    other_orders: Vec<Model>,
+    /// The model, then the model with other orders of foreign keys and of rows.
+    orders: Vec<Model>,
     pub calls: usize,
     pub accepted: usize,
+    /// How many rows the accepted calls of kinds 10 and 11 changed, and how many were refused.
+    pub searches: Counts<&'static str>,
+    pub searches_refused: usize,
     pub by_order: usize,
     pub by_limit: usize,
+    /// How many calls SQLite accepted by a miscount of its own.
+    pub miscounted: usize,
     /// How many orphan lists were compared, and how many of them had orphans.
     pub lists: usize,
     pub with_orphans: usize,
@@ -38,12 +51,14 @@ pub struct Alike {
 impl Alike {
     pub fn new() -> Alike {
         Alike {
-            model: Model::of_the_paper(),
-            other_orders: other_orders(),
+            orders: orders(),
             calls: 0,
             accepted: 0,
+            searches: Counts::default(),
+            searches_refused: 0,
             by_order: 0,
             by_limit: 0,
+            miscounted: 0,
             lists: 0,
             with_orphans: 0,
         }
@@ -61,8 +76,12 @@ impl Alike {
                 continue;
             }
             sent.push(call);
-            self.compare(engine, &ground, &mut area, &mut database, &sent)
+            let goes_on = self
+                .compare(engine, &ground, &mut area, &mut database, &sent)
                 .map_err(|why| told(&ground, &sent, &why))?;
+            if !goes_on {
+                return Ok(());
+            }
             if r.once_in(4) {
                 self.compare_list(engine, &ground, &area, &database)
                     .map_err(|why| told(&ground, &sent, &why))?;
@@ -73,26 +92,30 @@ impl Alike {
 
     /// Whether the call is left out. If not, the model has made it.
     fn left_out(&mut self, ground: &Ground, beside: &mut Vec<i64>, call: &[i64]) -> bool {
-        let mut after = beside.clone();
-        let answer = self.model.call(&ground.bytes, &mut after, call);
-        if matches!(answer.code, 13..=15) {
-            self.by_limit += 1;
-            return true;
+        let mut outcomes: Vec<Made> = Vec::new();
+        for model in &self.orders {
+            let mut after = beside.clone();
+            let answer = model.call(&ground.bytes, &mut after, call);
+            if matches!(answer.code, 13..=15) {
+                self.by_limit += 1;
+                return true;
+            }
+            outcomes.push((answer, after));
         }
-        let other = |model: &Model| {
-            let mut other = beside.clone();
-            let other_answer = model.call(&ground.bytes, &mut other, call);
-            !same_outcome(ground, (answer, &after), (other_answer, &other))
-        };
-        if self.other_orders.iter().any(other) {
+        let own = outcomes.remove(0);
+        if outcomes
+            .iter()
+            .any(|other| !same_outcome(ground, &own, other))
+        {
             self.by_order += 1;
             return true;
         }
-        *beside = after;
+        *beside = own.1;
         false
     }
 
-    /// Sends the last call to both.
+    /// Sends the last call to both. Tells whether the list goes on: it ends with a call by which
+    /// SQLite has miscounted.
     fn compare(
         &mut self,
         engine: &dyn Engine,
@@ -100,17 +123,28 @@ impl Alike {
         area: &mut [i64],
         database: &mut Database,
         sent: &[Vec<i64>],
-    ) -> Outcome {
+    ) -> Result<bool, String> {
         let call = sent.last().expect("a call was sent");
         let answer = engine.call(&ground.bytes, area, call);
-        let form = form::read(&self.model.rules, &ground.schema, call);
-        let accepted = database.call(&form.expect("the call is well-formed"));
+        let form = form::read(&self.orders[0].rules, &ground.schema, call);
+        let changed = database.call(&form.expect("the call is well-formed"));
         self.calls += 1;
-        self.accepted += usize::from(accepted);
-        if (answer.code == 0) != accepted {
+        self.accepted += usize::from(changed.is_some());
+        match changed {
+            _ if !is_search(call) => {}
+            Some(changed) => self.searches.add(how_many(changed)),
+            None => self.searches_refused += 1,
+        }
+        if matches!(answer.code, 20 | 21) && changed.is_some() && miscounted(ground, database) {
+            self.miscounted += 1;
+            return Ok(false);
+        }
+        let answered = (answer.code == 0).then_some(answer.changed);
+        let undone = matches!(call[0], 7 | 8);
+        if answered.is_some() != changed.is_some() || answered != changed && !undone {
             return Err(format!(
-                "answer {}, accepted by SQLite: {}",
-                answer, accepted
+                "answer {}, rows changed by SQLite: {:?}",
+                answer, changed
             ));
         }
         for (table, found) in rows(ground, area).into_iter().enumerate() {
@@ -119,7 +153,7 @@ impl Alike {
                 return Err(format!("table {}: {:?}, SQLite {:?}", table, found, kept));
             }
         }
-        Ok(())
+        Ok(true)
     }
 
     /// Compares the orphan list.
@@ -145,8 +179,17 @@ impl Alike {
     }
 }
 
-/// Every order of foreign keys below with every order of child rows below, but for the paper's own.
-fn other_orders() -> Vec<Model> {
+/// Whether SQLite accepted a call after which, by its own list, there are orphans of a key that must
+/// have none. An action that updates the parent column of a row which refers to itself can lower its
+/// count of violations by too much.
+fn miscounted(ground: &Ground, database: &Database) -> bool {
+    let waits = |key: u64| database.in_transaction() && ground.schema.keys[key as usize].deferred;
+    let orphans = database.orphans();
+    orphans.iter().any(|orphan| !waits(orphan.foreign_key))
+}
+
+/// Every order of foreign keys below with every order of rows below: first the paper's own.
+fn orders() -> Vec<Model> {
     let mut models = Vec::new();
     for key_order in KEY_ORDERS {
         for row_order in ROW_ORDERS {
@@ -156,7 +199,7 @@ fn other_orders() -> Vec<Model> {
             models.push(model);
         }
     }
-    models.split_off(1)
+    models
 }
 
 type Order = fn(&mut Rules);
@@ -173,22 +216,27 @@ const KEY_ORDERS: [Order; 3] = [
     },
 ];
 
-/// By number; from the last to the first; as SQLite does, listed before the first is changed.
+/// The child rows of an action and the rows of a search. By number; from the last to the first; as
+/// SQLite does, listed before the first is changed: those listed that are still live are changed,
+/// whatever they hold by then, and no others.
 const ROW_ORDERS: [Order; 3] = [
     |_| {},
-    |rules| rules.turns = |area, key, _| (0..area.schema.tables[key.child].rows).rev().collect(),
+    |rules| {
+        rules.turns = |area, key, _| (0..area.schema.tables[key.child].rows).rev().collect();
+        rules.rows_sought = |area, search| search::rows(area, search).into_iter().rev().collect();
+    },
     |rules| {
         rules.turns = having;
         rules.equal = |_, _| true;
+        rules.met = search::listed;
     },
 ];
 
-/// Whether both accept or both refuse, with the same rows and kept numbers.
-fn same_outcome(ground: &Ground, one: (Answer, &[i64]), other: (Answer, &[i64])) -> bool {
-    let kept = |area: &[i64]| area[4..36].to_vec();
-    (one.0.code == 0) == (other.0.code == 0)
-        && kept(one.1) == kept(other.1)
-        && rows(ground, one.1) == rows(ground, other.1)
+/// Whether both accept or both refuse, with as many rows changed, the same rows and kept numbers.
+fn same_outcome(ground: &Ground, one: &Made, other: &Made) -> bool {
+    (one.0.code == 0, one.0.changed) == (other.0.code == 0, other.0.changed)
+        && one.1[4..36] == other.1[4..36]
+        && rows(ground, &one.1) == rows(ground, &other.1)
 }
 
 /// The live rows of each table.

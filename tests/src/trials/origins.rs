@@ -1,0 +1,16 @@
+//! Where an area comes from.
+
+/// Filled and damaged areas, most of them, are not reachable by calls.
+#[derive(Clone, Copy, PartialEq)]
+pub enum Origin {
+    Reached,
+    Filled,
+    Damaged,
+}
+
+/// The origins with their names.
+pub const ORIGINS: &[(&str, Origin)] = &[
+    ("reached areas", Origin::Reached),
+    ("filled areas", Origin::Filled),
+    ("damaged areas", Origin::Damaged),
+];
