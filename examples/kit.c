@@ -14,7 +14,7 @@ enum { HORSES, TRIMS, READINGS, TABLES };
 enum { HORSE_ROWS = 4, TRIM_ROWS = 8, READING_ROWS = 8, MOST_ORPHANS = TRIM_ROWS + READING_ROWS };
 enum { HEADER = 16, TABLE = 80, KEY = 16, KEYS = 2, JOURNAL = 8 };
 enum { KEYS_AT = HEADER + TABLES * TABLE, SCHEMA = KEYS_AT + KEYS * KEY };
-enum { INSERT = 1, DELETE = 3, BEGIN = 4, COMMIT = 9 };
+enum { HORSE = 1 }; /* the column of trims and readings that names their horse */
 enum { DEFERRED = 1, CASCADE = 4 };
 
 static void put16(uint8_t *at, unsigned value)
@@ -43,7 +43,7 @@ static void put_key(uint8_t *at, unsigned child, unsigned parent)
     at[5] = 1;
     for (int i = 6; i < 14; i++)
         at[i] = 255;
-    at[6] = 1;
+    at[6] = HORSE;
     at[10] = 0;
 }
 
@@ -78,20 +78,24 @@ struct step {
 
 /* Trims and a reading come before their horse 8, and not in the order of their rows. */
 static const struct step entries[] = {
-    {"begin", {BEGIN}},
-    {"insert horse 7", {INSERT, HORSES, 0, 0, 7}},
-    {"insert reading 1 of horse 8 in row 0", {INSERT, READINGS, 0, 0, 1, 8}},
-    {"insert trim 1 of horse 8 in row 2", {INSERT, TRIMS, 2, 0, 1, 8}},
-    {"insert trim 2 of horse 7 in row 1", {INSERT, TRIMS, 1, 0, 2, 7}},
-    {"insert trim 3 of horse 8 in row 0", {INSERT, TRIMS, 0, 0, 3, 8}},
+    {"begin", {HOOFBOOK_BEGIN}},
+    {"insert horse 7", {HOOFBOOK_INSERT, HORSES, 0, 0, 7}},
+    {"insert reading 1 of horse 8 in row 0", {HOOFBOOK_INSERT, READINGS, 0, 0, 1, 8}},
+    {"insert trim 1 of horse 8 in row 2", {HOOFBOOK_INSERT, TRIMS, 2, 0, 1, 8}},
+    {"insert trim 2 of horse 7 in row 1", {HOOFBOOK_INSERT, TRIMS, 1, 0, 2, 7}},
+    {"insert trim 3 of horse 8 in row 0", {HOOFBOOK_INSERT, TRIMS, 0, 0, 3, 8}},
+    {"insert reading 2 of horse 7 in row 1", {HOOFBOOK_INSERT, READINGS, 1, 0, 2, 7}},
+    {"insert reading 3 of horse 7 in row 2", {HOOFBOOK_INSERT, READINGS, 2, 0, 3, 7}},
 };
 
-/* Horse 8 comes, and the commit is accepted. */
+/* Horse 8 comes, and the commit is accepted. The sensor that sent the readings of horse 7 was on horse 8. */
 static const struct step closing[] = {
-    {"commit", {COMMIT}},
-    {"insert horse 8", {INSERT, HORSES, 1, 0, 8}},
-    {"commit", {COMMIT}},
-    {"delete horse 7 and its trims", {DELETE, HORSES, 0}},
+    {"commit", {HOOFBOOK_COMMIT}},
+    {"insert horse 8", {HOOFBOOK_INSERT, HORSES, 1, 0, 8}},
+    {"commit", {HOOFBOOK_COMMIT}},
+    {"move the readings of horse 7 to horse 8", {HOOFBOOK_UPDATE_WHERE, READINGS, HORSE, 0, 7, HORSE, 8}},
+    {"delete the trims of horse 8", {HOOFBOOK_DELETE_WHERE, TRIMS, HORSE, 0, 8}},
+    {"delete horse 7 and its trims", {HOOFBOOK_DELETE, HORSES, 0}},
 };
 
 static void carry_out(struct book *book, const struct step *steps, size_t count)

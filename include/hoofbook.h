@@ -14,7 +14,7 @@
 extern "C" {
 #endif
 
-/* Codes. Nothing is written by 1 to 4, 10 to 13, 21 and 22. A call refused by 14 to 20 has its rows
+/* Codes. Nothing is written by 1 to 4, 10 to 13, 21 and 22. A call refused by 14 to 20 has all its rows
  * put back, and every journal word past the records in use is zero. */
 enum hoofbook_code {
     HOOFBOOK_DONE = 0,                 /* carried out */
@@ -23,18 +23,38 @@ enum hoofbook_code {
     HOOFBOOK_WRONG_LENGTH = 3,         /* the area has not the length that the schema needs */
     HOOFBOOK_BAD_CALL = 4,             /* not twelve words, or a word out of its range */
     HOOFBOOK_DAMAGED = 10,             /* the area's header, levels or journal are at odds */
-    HOOFBOOK_ROW_STATE = 11,           /* insert on a live row; update or delete on a vacant one */
+    HOOFBOOK_ROW_STATE = 11,           /* insert on a live row; update or delete (kinds 2 and 3) on a vacant one */
     HOOFBOOK_LEVEL_STATE = 12,         /* no such transaction or level is open, or begin inside one */
     HOOFBOOK_LEVELS_FULL = 13,         /* savepoint with nine levels open */
     HOOFBOOK_TOO_DEEP = 14,            /* referential actions reached depth 17 */
-    HOOFBOOK_JOURNAL_FULL = 15,        /* no journal record is left */
+    HOOFBOOK_JOURNAL_FULL = 15,        /* no journal record is left for the next row change */
     HOOFBOOK_NOT_NULL = 16,            /* NULL in a NOT NULL column */
     HOOFBOOK_NOT_UNIQUE = 17,          /* another live row has the same unique key */
     HOOFBOOK_RESTRICTED = 18,          /* RESTRICT: a child row has the key */
     HOOFBOOK_KEPT_OUT_OF_RANGE = 19,   /* a kept number of orphans would leave its range (damaged areas) */
-    HOOFBOOK_ORPHANS_LEFT = 20,        /* the statement would leave orphans of an immediate key */
+    HOOFBOOK_ORPHANS_LEFT = 20,        /* after the last row orphans are left: of an immediate key, or
+                                        * outside a transaction of any key */
     HOOFBOOK_COMMIT_WITH_ORPHANS = 21, /* commit while a foreign key has orphans */
     HOOFBOOK_LIST_TOO_SHORT = 22       /* the list has less records than there are orphans */
+};
+
+/* Kinds of calls. A call is twelve words: 0 the kind, 1 a, 2 b, 3 the NULL mask, 4 to 11 the values.
+ * Tables, rows and columns are counted from 0, levels from 1. Words that a kind does not use are 0, and so is
+ * a value in whose place the mask says NULL. */
+enum hoofbook_kind {
+    HOOFBOOK_INSERT = 1,        /* table a, row b; word 4 + i is column i, bit i of the mask makes it NULL */
+    HOOFBOOK_UPDATE = 2,        /* likewise; every column is given */
+    HOOFBOOK_DELETE = 3,        /* table a, row b */
+    HOOFBOOK_BEGIN = 4,         /* opens a transaction */
+    HOOFBOOK_SAVEPOINT = 5,     /* opens the next level, or a transaction if none is open */
+    HOOFBOOK_RELEASE = 6,       /* closes level a and those above it; level 1, opened by savepoint: commits */
+    HOOFBOOK_ROLLBACK_TO = 7,   /* undoes what came after level a opened; it stays open, those above close */
+    HOOFBOOK_ROLLBACK = 8,      /* undoes the transaction */
+    HOOFBOOK_COMMIT = 9,        /* ends the transaction */
+    HOOFBOOK_DELETE_WHERE = 10, /* deletes every row of table a whose column b equals word 4; with bit 0 of
+                                 * the mask, every row whose column b is NULL */
+    HOOFBOOK_UPDATE_WHERE = 11  /* of every such row sets column word 5 to word 6, with bit 1 of the mask to
+                                 * NULL */
 };
 
 /* The answer to a call: code, rows changed, and the net change in all kept orphans. Refused: code, 0, 0. */
@@ -65,7 +85,9 @@ int64_t hoofbook_area_words(const uint8_t *schema, size_t schema_len);
 /* Makes the area fresh; answers the code. */
 int64_t hoofbook_make_fresh(const uint8_t *schema, size_t schema_len, int64_t *area, size_t area_len);
 
-/* Carries out a call of twelve words, or refuses it. */
+/* Carries out a call of twelve words, of one of the eleven kinds, or refuses it. Kinds 10 and 11 go by rising
+ * row number and judge each row at its turn, by 14 to 18; 20 is judged once, after the last row. One refused
+ * row refuses the whole call; finding no row is no cause to refuse. */
 hoofbook_answer hoofbook_call(const uint8_t *schema, size_t schema_len, int64_t *area, size_t area_len,
                               const int64_t *call, size_t call_len);
 

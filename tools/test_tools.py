@@ -3,6 +3,7 @@
 
 import os
 import random
+import re
 import struct
 import sys
 import tempfile
@@ -18,6 +19,7 @@ from booktext.writer import text_of
 from tooltests.checks import Checks, tool
 from tooltests.hoofask import check_build, check_hoofask
 from tooltests.inputs import damaged, whole_input
+from tooltests.many_rows import check_many_rows
 from tooltests.mistakes import TABLES, all_mistakes
 from tooltests.orphans import check_orphans
 
@@ -108,12 +110,15 @@ def check_round_trips(checks):
         checks.check(f"round trip of {path.name}", returns(data))
     for data in (b"", b"F", b"FKB1" + bytes(12), bytes(96), b"FKB1" + b"\xff" * 300):
         checks.check(f"round trip of {data[:8]}", returns(data))
-    source = random.Random(2024)
+    source, texts = random.Random(2024), ""
     for number in range(RANDOM_INPUTS):
         data = whole_input(source)
-        told = not text_of(data).startswith("bytes")
-        checks.check(f"round trip of random input {number}", told and returns(data))
+        text = text_of(data)
+        checks.check(f"round trip of random input {number}", text[:5] != "bytes" and returns(data))
         checks.check(f"round trip of damaged input {number}", returns(damaged(source, data)))
+        texts += text
+    for start in (r"delete \S+ where ", r"update \S+ set ", "words 10 ", "words 11 "):
+        checks.check(f"random inputs with {start}", re.search(f"^{start}", texts, re.MULTILINE))
 
 
 def check_mistakes(checks):
@@ -215,8 +220,8 @@ def main():
     """Runs every check; the status is 0 only where none failed."""
     checks = Checks()
     for run in (
-        check_build, check_encoding, check_round_trips, check_mistakes, check_runs, check_hoofask,
-        check_orphans, check_commands, check_command_faults, check_blocks,
+        check_build, check_encoding, check_round_trips, check_mistakes, check_many_rows, check_runs,
+        check_hoofask, check_orphans, check_commands, check_command_faults, check_blocks,
     ):
         try:
             run(checks)

@@ -71,10 +71,15 @@ class Line:
         self.next += 1
         return word
 
+    def at_number(self):
+        """Whether a whole number comes next."""
+        word = self.peek()
+        return bool(word) and word[-1].isdigit() and not (word[0].isalpha() or word[0] == "_")
+
     def number(self, what, least, most):
         """Takes a whole number from least to most."""
         word = self.peek()
-        if not word or not word[-1].isdigit() or word[0].isalpha() or word[0] == "_":
+        if not self.at_number():
             self.expected(what)
         if len(word) > LONGEST_NUMBER or not least <= int(word) <= most:
             self.fail(f"expected {what} from {least} to {most}, found {word}")

@@ -1,6 +1,6 @@
 """Writes the text that says given bytes; tables are named t0, t1 and so on, columns c0, c1."""
 
-from .calls import CALL, call_text
+from .calls import CALL, call_text, value_text
 from .schema import ACTIONS, HEADER, read_schema
 
 BYTES_ON_A_LINE = 16
@@ -32,7 +32,7 @@ def table_lines(table):
         if [c] in table.unique[:on_columns]:
             line += " unique"
         if column.default != 0:
-            line += f" default {'null' if column.default is None else column.default}"
+            line += f" default {value_text(column.default)}"
         lines.append(line)
     for key in table.unique[on_columns:]:
         names = ", ".join(table.columns[c].name for c in key)

@@ -4,7 +4,7 @@ import random
 import subprocess
 from pathlib import Path
 
-from booktext.calls import CALL, call_words
+from booktext.calls import CALL, call_words, where_words
 from booktext.orphans import ask_orphans
 from booktext.programs import HOOFASK
 from booktext.reader import read_text
@@ -12,6 +12,7 @@ from booktext.runner import run_hoofrun
 
 BUILD = Path(__file__).resolve().parents[1] / "build.sh"
 RANDOM_BOOKS = 60
+FEW_VALUES = (None, 1, 2, 3, 4, 5, 6)  # so that keys meet
 
 TIED = """\
 table horses rows 2
@@ -105,25 +106,42 @@ def check_short_calls(checks):
 
 
 def row_change(source):
-    """An insert, update or delete in a table of TIED; few values, so that keys meet."""
+    """An insert, update or delete of a row in a table of TIED."""
     kind, table, row = source.choice((1, 1, 1, 2, 3)), source.randrange(3), source.randrange(4)
     columns = 0 if kind == 3 else 1 + table
-    return call_words(kind, table, row, source.choices((None, 1, 2, 3, 4, 5, 6), k=columns))
+    return call_words(kind, table, row, source.choices(FEW_VALUES, k=columns))
+
+
+def many_rows_change(source):
+    """A delete or update of every row found in a table of TIED."""
+    table = source.randrange(3)
+    sought, given = ((source.randrange(1 + table), source.choice(FEW_VALUES)) for _ in range(2))
+    return where_words(table, sought, source.choice((None, given, given)))
+
+
+def random_calls(source):
+    """Up to 40 calls, a third of them for many rows."""
+    changes = (row_change, row_change, many_rows_change)
+    return b"".join(CALL.pack(*source.choice(changes)(source)) for _ in range(source.randint(0, 40)))
 
 
 def check_random_books(checks):
     """Lists rise by foreign key, then by row, with as many orphans as the nets add up to."""
-    source, longest = random.Random(2024), 0
-    book = read_text(TIED.replace("journal 8", "journal 40") + "begin\n").to_bytes()
+    source, lengths, changed = random.Random(2024), [], []
+    book = read_text(TIED.replace("journal 8", "journal 99") + EVERY_ROW).to_bytes()
     for number in range(RANDOM_BOOKS):
-        calls = [CALL.pack(*row_change(source)) for _ in range(source.randint(0, 40))]
-        data = book + b"".join(calls)
+        data = book + random_calls(source)
         code, orphans = ask_orphans(data)
-        net = sum(answer[2] for answer in run_hoofrun(data)[0])
+        answers = run_hoofrun(data)[0]
+        net = sum(answer[2] for answer in answers)
         right = code == 0 and orphans == sorted(set(orphans)) and len(orphans) == net
         checks.check(f"hoofask: random book {number}", right, orphans)
-        longest = max(longest, len(orphans))
-    checks.check("hoofask: a random book with orphans", longest > 4, longest)
+        lengths.append(len(orphans))
+        changed += [answer[1] for answer in answers]
+    varied = min(lengths) < 4 and max(lengths) > 8
+    checks.check("hoofask: random books with few and with many orphans", varied, lengths)
+    several = sum(rows > 1 for rows in changed)
+    checks.check("hoofask: random calls that change several rows", several > 9, several)
 
 
 def check_faults(checks):

@@ -47,9 +47,20 @@ def schema(random):
     return struct.pack("<4s6H", b"FKB1", *sizes) + tables + records, widths
 
 
+def many_rows(random, kind, widths):
+    """Words 1 to 6 of a well-formed call for many rows: kind 10 seeks, kind 11 also sets."""
+    table = random.randrange(len(widths))
+    width, mask = widths[table], random.randrange(2 if kind == 10 else 4)
+    sought = 0 if mask & 1 else random.choice(WORDS)
+    if kind == 10:
+        return table, random.randrange(width), mask, sought, 0, 0
+    given = 0 if mask & 2 else random.choice(WORDS)
+    return table, random.randrange(width), mask, sought, random.randrange(width), given
+
+
 def call(random, widths):
     """A call that is well formed, but for its row and now and then a word."""
-    kind = random.randint(1, 9)
+    kind = random.randint(1, 11)
     words = [kind] + [0] * 11
     if kind <= 3:
         words[1:3] = random.randrange(len(widths)), random.choice((0, 1, 29, 1023, -1, 1024))
@@ -59,6 +70,8 @@ def call(random, widths):
             words[4 + c] = 0 if words[3] >> c & 1 else random.choice(WORDS)
     if kind in (6, 7):
         words[1] = random.choice(WORDS)
+    if kind in (10, 11):
+        words[1:7] = many_rows(random, kind, widths)
     if random.random() < 0.1:
         words[random.randrange(12)] = random.choice(WORDS)
     return struct.pack("<12q", *words)

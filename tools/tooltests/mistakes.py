@@ -72,7 +72,8 @@ CALL_MISTAKES = [
     ("insert trims 0 number=1 horse=NULL", "expected a whole number or null, found 'NULL'"),
     ("insert trims 0 number=1 horse=-9223372036854775809", "from -9223372036854775808"),
     ("insert trims 0 number=1.5 horse=2", "found '.'"),
-    ("delete trims", "expected a row number, found the end of the line"),
+    ("delete trims", "expected a row number or 'where', found the end of the line"),
+    ("delete trims -9223372036854775809", "expected a row number from -9223372036854775808"),
     ("delete trims 0 number=1", "expected the end of the line, found 'number'"),
     ("begin 1", "expected the end of the line, found '1'"),
     ("release", "expected a level, found the end of the line"),
@@ -86,6 +87,31 @@ CALL_MISTAKES = [
     ("bytes 4G", "found '4G'"),
     ("bytes", "expected 1 to 95 bytes"),
     ("bytes" + " 00" * 96, "expected 1 to 95 bytes"),
+]
+
+WHERE_MISTAKES = [
+    ("insert trims where horse = 5", "expected a row number, found 'where'"),
+    ("delete where horse = 5", "expected the name of a table (horses, trims), found 'where'"),
+    ("delete trims 0 where horse = 5", "expected the end of the line, found 'where'"),
+    ("delete trims set horse=6", "expected a row number or 'where', found 'set'"),
+    ("delete trims where", "expected a column of trims (number, horse), found the end of the line"),
+    ("delete trims where hoof = 5", "expected a column of trims (number, horse), found 'hoof'"),
+    ("delete trims where horse 5", "expected '=', found '5'"),
+    ("delete trims where horse is null", "expected '=', found 'is'"),
+    ("delete trims where horse =", "expected a whole number or null, found the end of the line"),
+    ("delete trims where horse = number", "expected a whole number or null, found 'number'"),
+    ("delete trims where horse = 9223372036854775808", "to 9223372036854775807, found 92233720"),
+    ("delete trims where horse = 5 and number = 1", "expected the end of the line, found 'and'"),
+    ("update trims horse=6", "expected a row number or 'set', found 'horse'"),
+    ("update trims where horse = 5", "expected a row number or 'set', found 'where'"),
+    ("update trims set where horse = 5", "expected a column of trims (number, horse), found 'where'"),
+    ("update trims set hoof=6 where horse = 5", "a column of trims (number, horse), found 'hoof'"),
+    ("update trims set horse where horse = 5", "expected '=', found 'where'"),
+    ("update trims set horse=-9223372036854775809 where horse = 5", "from -9223372036854775808"),
+    ("update trims set horse=6", "expected 'where' (one column is set), found the end of the line"),
+    ("update trims set horse=6 number=7 where horse = 5", "(one column is set), found 'number'"),
+    ("update trims set horse=6, number=7 where horse = 5", "(one column is set), found ','"),
+    ("update trims set horse=6 where horse = 5 6", "expected the end of the line, found '6'"),
 ]
 
 ORDER_MISTAKES = [
@@ -105,6 +131,6 @@ def all_mistakes():
     yield from SCHEMA_MISTAKES
     for line, message in KEY_MISTAKES:
         yield before_journal + line + "\njournal 8\n", at_key, message
-    for line, message in CALL_MISTAKES:
+    for line, message in CALL_MISTAKES + WHERE_MISTAKES:
         yield TABLES + "\n# calls\n" + line + "\ncommit\n", 11, message
     yield from ORDER_MISTAKES
