@@ -8,6 +8,7 @@ BATCH = 8  # statements of a transaction, which is rolled back
 LEAST_SECONDS = 0.03  # what the statements of one measurement take at least, if they are not too many
 MOST_BATCHES = 6400
 HORSES, TRIMS = 0, 1
+HORSE = 1  # column of a trim
 
 # Each statement on row r. The last horses have no trims, so that no action changes a second row.
 STATEMENTS = {
@@ -18,6 +19,9 @@ STATEMENTS = {
     "update horse": (UPDATE, HORSES, lambda r: [r + 5000]),
     "delete horse": (DELETE, HORSES, lambda r: []),
 }
+
+# The horse that is sought in an update of all its trims; no trim has it.
+SEARCHES = {"find no trim": -1, "find no NULL": None}
 
 
 def filled(rows):
@@ -31,15 +35,23 @@ def filled(rows):
     return calls
 
 
+def add_statement(calls, rows, statement, i):
+    """The statement of number i in its transaction."""
+    if statement in SEARCHES:
+        calls.add_where(TRIMS, (HORSE, SEARCHES[statement]), (HORSE, 0))
+    else:
+        kind, table, values = STATEMENTS[statement]
+        row = rows - 1 - i if kind == INSERT else rows - BATCH - 1 - i
+        calls.add(kind, table, row, values(row))
+
+
 def batches(rows, statement, count):
     """So many transactions that are rolled back; without a statement they are empty."""
     calls = filled(rows)
     for _ in range(count):
         calls.add(BEGIN)
         for i in range(BATCH if statement else 0):
-            kind, table, values = STATEMENTS[statement]
-            row = rows - 1 - i if kind == INSERT else rows - BATCH - 1 - i
-            calls.add(kind, table, row, values(row))
+            add_statement(calls, rows, statement, i)
         calls.add(ROLLBACK)
     return calls.to_bytes()
 
@@ -62,7 +74,7 @@ def cost(sides, rows, statement):
 def print_growth(sides):
     """Two lines for each statement, hoofrun's and SQLite's cost at each number of rows."""
     print(f"{'nanoseconds a statement':32}" + "".join(f"{f'R = {rows:,}':>12}" for rows in ROWS))
-    for statement in STATEMENTS:
+    for statement in (*STATEMENTS, *SEARCHES):
         costs = zip(*[cost(sides, rows, statement) for rows in ROWS])
         for side, line in zip(("hoofrun", "SQLite"), costs):
             print(f"{statement:20}{side:12}" + "".join(f"{ns:12,.0f}" for ns in line), flush=True)

@@ -6,7 +6,7 @@ from pathlib import Path
 
 sys.path.insert(0, str(Path(__file__).resolve().parents[1] / "tools"))
 
-from booktext.calls import CALL, LEVEL_KINDS, PLAIN_KINDS, ROW_KINDS, call_words
+from booktext.calls import CALL, LEVEL_KINDS, PLAIN_KINDS, ROW_KINDS, call_words, where_words
 from booktext.reader import read_text
 from booktext.schema import schema_bytes
 
@@ -14,7 +14,7 @@ MOST_AREA_WORDS = 8192  # of hoofrun
 BEGIN, SAVEPOINT = PLAIN_KINDS["begin"], PLAIN_KINDS["savepoint"]
 ROLLBACK, COMMIT = PLAIN_KINDS["rollback"], PLAIN_KINDS["commit"]
 RELEASE, ROLLBACK_TO = LEVEL_KINDS["release"], LEVEL_KINDS["rollback to"]
-INSERT, UPDATE, DELETE = ROW_KINDS.values()
+INSERT, UPDATE, DELETE = (ROW_KINDS[verb] for verb in ("insert", "update", "delete"))
 
 
 class Calls:
@@ -32,6 +32,10 @@ class Calls:
     def add(self, kind, a=0, b=0, values=()):
         """One more call."""
         self.calls.append(CALL.pack(*call_words(kind, a, b, values)))
+
+    def add_where(self, table, sought, given=None):
+        """One more call: every row with the cell sought is deleted, or updated to the cell given."""
+        self.calls.append(CALL.pack(*where_words(table, sought, given)))
 
     def to_bytes(self):
         """The whole input."""

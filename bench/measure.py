@@ -10,12 +10,13 @@ from growth import print_growth
 from inputs import Yard
 from loads import TWO_COLUMNS, autocommit, empty_transactions, herd, pedigree, sixteen_tables
 from loads import transactions, trims_text
+from readings import NUMBER, VALUE, Kit, readings
 from ties import ties
 
 RUNS = 3
 SCHEMA_LENGTH_AT = 14
 CALL_BYTES = 96
-ROW_KINDS = (1, 2, 3)
+STATEMENT_KINDS = (1, 2, 3, 10, 11)
 
 
 def loads(count):
@@ -30,6 +31,10 @@ def loads(count):
     yield "pedigree of depth 16", pedigree(count)
     yield "16 tables, depth 16", sixteen_tables(count)
     yield "32 keys, all actions", ties(count)
+    yield "readings moved, autocommit", readings(Kit(NUMBER, 11), Kit.statement, count)
+    yield "readings moved, transactions", readings(Kit(NUMBER, 12), Kit.transaction, count)
+    yield "readings without a sensor", readings(Kit(NUMBER, 13), Kit.take_off, count)
+    yield "readings without a number", readings(Kit(VALUE, 14), Kit.statement, count)
     yield "* 32 equal keys, 900 rows", autocommit(Yard(trims_text(900, 900, 64, keys=32), 7), count)
     yield "* constant first column", autocommit(Yard(TWO_COLUMNS, 8, yard_column=True), count)
     yield "* J = 750, long transactions", transactions(Yard(trims_text(60, 75, 750), 9), count, 700)
@@ -37,6 +42,7 @@ def loads(count):
     empty = empty_transactions(Yard(trims_text(60, 75, 750), 10), 10 * count)
     yield "* J = 750, empty transactions", empty
     yield "* 500 rows follow a parent", herd(count)
+    yield "* one reading or none found", readings(Kit(NUMBER, 15), Kit.single_readings, count)
 
 
 class Sides:
@@ -45,6 +51,7 @@ class Sides:
     def __init__(self, hoofrun, sqlite_side, folder):
         self.programs = hoofrun, sqlite_side
         self.version = ""
+        self.changed = 0  # rows that the statements of the last input changed
         self.input, self.output = Path(folder) / "input.bin", Path(folder) / "answers.txt"
 
     def run(self, program):
@@ -87,23 +94,24 @@ class Sides:
             sys.exit(f"measure: {len(kinds)} calls, {len(ours)} and {len(theirs)} answers")
         for number, (kind, our, their) in enumerate(zip(kinds, ours, theirs)):
             agree = (our[0] == "0") == (their[0] == "accepted")
-            if kind in ROW_KINDS:
+            if kind in STATEMENT_KINDS:
                 agree = agree and our[1] == their[1]
             if not agree:
                 sys.exit(f"measure: call {number} has answers {our} and {their}")
+        self.changed = sum(int(our[1]) for kind, our in zip(kinds, ours) if kind in STATEMENT_KINDS)
 
 
 def print_loads(sides, count):
     """One line for each input, and the geometric mean of the ratios."""
-    print(f"{'calls a second':30}{'calls':>8}{'hoofrun':>13}{'SQLite':>13}{'ratio':>8}")
+    print(f"{'calls a second':30}{'calls':>8}{'rows':>9}{'hoofrun':>13}{'SQLite':>13}{'ratio':>8}")
     logarithms = []
     for name, calls in loads(count):
         ours, theirs = sides.best(calls.to_bytes())
         logarithms.append(math.log(theirs / ours))
         rates = f"{len(calls) / ours:13,.0f}{len(calls) / theirs:13,.0f}"
-        print(f"{name:30}{len(calls):8,}{rates}{theirs / ours:8.2f}", flush=True)
+        print(f"{name:30}{len(calls):8,}{sides.changed:9,}{rates}{theirs / ours:8.2f}", flush=True)
     mean = math.exp(sum(logarithms) / len(logarithms))
-    print(f"{'geometric mean':64}{mean:8.2f}")
+    print(f"{'geometric mean':73}{mean:8.2f}")
     print(f"* made for SQLite to win. SQLite is {sides.version}, in memory.")
 
 

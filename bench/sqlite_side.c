@@ -2,10 +2,10 @@
 //
 //   sqlite_side <input >answers
 //
-// A line for each call, 'accepted,ROWS' or 'refused,0'; ROWS counts the rows that an insert, update or
-// delete changed, those of its actions included. The seconds that the calls took, and SQLite's version,
-// go to standard error: reading the input, making the tables, preparing the statements and printing are
-// not in those seconds.
+// A line for each call, 'accepted,ROWS' or 'refused,0'; ROWS counts the rows that a statement changed,
+// those of its actions included. The seconds that the calls took, and SQLite's version, go to standard
+// error: reading the input, making the tables, preparing the statements and printing are not in those
+// seconds.
 //
 //   sqlite_side LISTS <input >orphans
 //
@@ -19,8 +19,10 @@
 #include <sqlite3.h>
 #include <stdarg.h>
 
-enum { MOST_TABLES = 16, MOST_LEVELS = 9, TABLE_BYTES = 80, KEY_BYTES = 16 };
+enum { MOST_TABLES = 16, MOST_COLUMNS = 8, MOST_LEVELS = 9, TABLE_BYTES = 80, KEY_BYTES = 16 };
 enum { INSERT = 1, UPDATE, DELETE, BEGIN, SAVEPOINT, RELEASE, ROLLBACK_TO, ROLLBACK, COMMIT };
+enum { DELETE_WHERE = COMMIT + 1, UPDATE_WHERE, WHERE_KINDS = 2 };
+enum { SEEKS_NULL = 1, SETS_NULL = 2 };
 
 // A table or foreign key record as its bytes, read where it is needed.
 typedef const uint8_t *record;
@@ -29,6 +31,8 @@ static sqlite3 *db;
 static int table_count, key_count, open_levels;
 static record table_records, key_records;
 static sqlite3_stmt *row_statements[DELETE + 1][MOST_TABLES];
+// By kind, whether NULL is sought, table, column sought and column to set, which is 0 for a deletion.
+static sqlite3_stmt *where_statements[WHERE_KINDS][2][MOST_TABLES][MOST_COLUMNS][MOST_COLUMNS];
 static sqlite3_stmt *level_statements[ROLLBACK_TO + 1][MOST_LEVELS + 1];
 static sqlite3_stmt *begin_statement, *rollback_statement, *commit_statement, *check_statement;
 
@@ -195,25 +199,25 @@ static void prepare_level_statements(void) {
     }
 }
 
-static void open_book(const uint8_t *schema) {
-    table_count = field16(schema + 4), key_count = field16(schema + 6);
-    table_records = schema + HEADER_BYTES, key_records = table_records + TABLE_BYTES * table_count;
-    sqlite3_config(SQLITE_CONFIG_SINGLETHREAD);
-    sqlite3_config(SQLITE_CONFIG_MEMSTATUS, 0);
-    if (sqlite3_open(":memory:", &db) != SQLITE_OK) stop("open");
-    execute("PRAGMA foreign_keys=ON; PRAGMA journal_mode=MEMORY; PRAGMA synchronous=OFF;"
-            "PRAGMA temp_store=MEMORY; PRAGMA locking_mode=EXCLUSIVE; PRAGMA cache_size=-65536");
-    for (int t = table_count - 1; t >= 0; t--) create_table(t);
-    create_indexes();
-    for (int t = 0; t < table_count; t++) prepare_row_statements(t);
-    prepare_level_statements();
+// The part of well_formed for kinds 10 and 11.
+static int where_well_formed(const int64_t *call) {
+    int64_t t = call[1], sought = call[2], mask = call[3], set = call[5];
+    int sets = call[0] == UPDATE_WHERE;
+    if (t < 0 || t >= table_count) return 0;
+    if (sought < 0 || sought >= column_count(t) || set < 0 || set >= column_count(t)) return 0;
+    if (mask < 0 || mask > (sets ? SEEKS_NULL + SETS_NULL : SEEKS_NULL)) return 0;
+    if ((mask & SEEKS_NULL && call[4]) || (mask & SETS_NULL && call[6])) return 0;
+    for (int word = sets ? 7 : 5; word < 12; word++)
+        if (call[word]) return 0;
+    return 1;
 }
 
 // Whether each word is in its range and the unused ones are 0, as the paper's refusal 4 wants it.
 static int well_formed(const int64_t *call) {
     int64_t kind = call[0], a = call[1], b = call[2], mask = call[3];
     int columns = 0;
-    if (kind < INSERT || kind > COMMIT) return 0;
+    if (kind < INSERT || kind > UPDATE_WHERE) return 0;
+    if (kind > COMMIT) return where_well_formed(call);
     if (kind <= DELETE) {
         if (a < 0 || a >= table_count || b < 0 || b >= row_count(a)) return 0;
         if (kind != DELETE) columns = column_count(a);
@@ -226,10 +230,77 @@ static int well_formed(const int64_t *call) {
     return 1;
 }
 
+// Whether some index begins with a column: a unique key's, or one made for a child key.
+static int begins_index(int t, int column) {
+    for (int u = 4; u < 8; u++) {
+        uint8_t columns[8];
+        if (mask_columns(table_record(t)[u], columns) && columns[0] == column) return 1;
+    }
+    for (int k = 0; k < key_count; k++)
+        if (key_record(k)[0] == t && key_record(k)[6] == column && !is_indexed(k)) return 1;
+    return 0;
+}
+
+// An index on the column that a call of kind 10 or 11 seeks by.
+static void index_sought(const int64_t *call) {
+    int t = call[1], column = call[2];
+    if (begins_index(t, column)) return;
+    sql_start();
+    add("CREATE INDEX IF NOT EXISTS s%dc%d ON t%d(c%d)", t, column, t, column);
+    execute(sql);
+}
+
+// Where the prepared statement of a call of kind 10 or 11 is kept.
+static sqlite3_stmt **where_statement(const int64_t *call) {
+    return &where_statements[call[0] - DELETE_WHERE][call[3] & SEEKS_NULL][call[1]][call[2]][call[5]];
+}
+
+static void prepare_where(const int64_t *call) {
+    sqlite3_stmt **statement = where_statement(call);
+    int t = call[1], column = call[2], set_column = call[5];
+    if (*statement) return;
+    sql_start();
+    if (call[0] == DELETE_WHERE) add("DELETE FROM t%d", t);
+    else add("UPDATE t%d SET c%d=?2", t, set_column);
+    add(" WHERE c%d%s", column, call[3] & SEEKS_NULL ? " IS NULL" : "=?1");
+    *statement = prepared();
+}
+
+// Hands over every call of kind 10 or 11 that is well formed.
+static void for_each_where(input book, void (*act)(const int64_t *call)) {
+    for (size_t i = 0; i < book.call_count; i++) {
+        int64_t call[12];
+        memcpy(call, book.calls + CALL_BYTES * i, CALL_BYTES);
+        if (call[0] > COMMIT && well_formed(call)) act(call);
+    }
+}
+
+static void open_book(input book) {
+    const uint8_t *schema = book.schema;
+    table_count = field16(schema + 4), key_count = field16(schema + 6);
+    table_records = schema + HEADER_BYTES, key_records = table_records + TABLE_BYTES * table_count;
+    sqlite3_config(SQLITE_CONFIG_SINGLETHREAD);
+    sqlite3_config(SQLITE_CONFIG_MEMSTATUS, 0);
+    if (sqlite3_open(":memory:", &db) != SQLITE_OK) stop("open");
+    execute("PRAGMA foreign_keys=ON; PRAGMA journal_mode=MEMORY; PRAGMA synchronous=OFF;"
+            "PRAGMA temp_store=MEMORY; PRAGMA locking_mode=EXCLUSIVE; PRAGMA cache_size=-65536");
+    for (int t = table_count - 1; t >= 0; t--) create_table(t);
+    create_indexes();
+    for_each_where(book, index_sought);
+    for (int t = 0; t < table_count; t++) prepare_row_statements(t);
+    for_each_where(book, prepare_where);
+    prepare_level_statements();
+}
+
 static int run(sqlite3_stmt *statement) {
     int done = sqlite3_step(statement) == SQLITE_DONE;
     sqlite3_reset(statement);
     return done;
+}
+
+static void bind_value(sqlite3_stmt *statement, int place, int is_null, int64_t value) {
+    if (is_null) sqlite3_bind_null(statement, place);
+    else sqlite3_bind_int64(statement, place, value);
 }
 
 // SQLite accepts an update or a delete of a row that is not there; here that is a refusal.
@@ -237,9 +308,16 @@ static int run_row_call(const int64_t *call) {
     sqlite3_stmt *statement = row_statements[call[0]][call[1]];
     sqlite3_bind_int64(statement, 1, call[2]);
     for (int c = 0; call[0] != DELETE && c < column_count(call[1]); c++)
-        if (call[3] >> c & 1) sqlite3_bind_null(statement, c + 2);
-        else sqlite3_bind_int64(statement, c + 2, call[4 + c]);
+        bind_value(statement, c + 2, call[3] >> c & 1, call[4 + c]);
     return run(statement) && sqlite3_changes(db) == 1;
+}
+
+// Kinds 10 and 11: changing no row is no refusal.
+static int run_where_call(const int64_t *call) {
+    sqlite3_stmt *statement = *where_statement(call);
+    if (!(call[3] & SEEKS_NULL)) sqlite3_bind_int64(statement, 1, call[4]);
+    if (call[0] == UPDATE_WHERE) bind_value(statement, 2, call[3] & SETS_NULL, call[6]);
+    return run(statement);
 }
 
 // SQLite has no limit of levels; a tenth one is refused here.
@@ -265,7 +343,9 @@ static int run_level_call(const int64_t *call) {
 static int accepts(const uint8_t *bytes) {
     int64_t call[12];
     memcpy(call, bytes, CALL_BYTES);
-    return well_formed(call) && (call[0] <= DELETE ? run_row_call(call) : run_level_call(call));
+    if (!well_formed(call)) return 0;
+    if (call[0] <= DELETE) return run_row_call(call);
+    return call[0] <= COMMIT ? run_level_call(call) : run_where_call(call);
 }
 
 static void print_answers(const int *changed, size_t count) {
@@ -300,7 +380,7 @@ static size_t list_orphans(void) {
 
 int main(int argc, char **argv) {
     input book = read_input();
-    open_book(book.schema);
+    open_book(book);
     if (argc == 1) {
         answer_calls(book);
     } else {
