@@ -2,9 +2,13 @@
 -- Assumes nothing.
 use mathlib.Core.Path.{_≡_, refl, sym, ap, _∙_}
 use mathlib.Core.Bool.{true, false}
+use mathlib.Core.List.{List}
 use Prim.Native.Nat.{ℕ, _+_, _-_, _≤_, _<_}
 use native.Mathlib.Omega.{arith}
+use lib.IntN.{ℤ}
+use lib.ListN.{length}
 use Rattle.schema.specs.Records.{Schema, tableOf}
+use Rattle.schema.specs.Fields.{schemaOf}
 use Rattle.rules.specs.declared.Refusal.{Refusal}
 use Rattle.rules.specs.declared.Verdict.{Verdict}
 use Rattle.rules.specs.declared.Verdict.the-variants.{Pass, Fail}
@@ -13,8 +17,10 @@ use Rattle.rules.specs.Rows.{Row, image}
 use Rattle.rules.specs.Book.{Work}
 use Rattle.rules.specs.Change.{Result, go, given, inTurn, change}
 use Rattle.rules.specs.Found.{foundTurn, rowsFound}
+use Rattle.bridge.specs.Fit.{workOf}
 use Rattle.bridge.specs.Ready.{resultOf}
 use Rattle.bridge.proofs.TurnLaws.{turns-start, turns-none, turns-past, turns-done, turns-refused}
+use Rattle.moves.specs.Tally.{Follows}
 use Rattle.scans.specs.FirstFrom.{FirstFrom}
 use Rattle.found.specs.declared.Cell.{Cell}
 use Rattle.found.specs.declared.Given.{Given}
@@ -63,3 +69,10 @@ module _ (s : Schema) (t : ℕ) (sought : Cell) (g : Given) where
       pub walk-refused : {c : Refusal} → o ≡ Fail c → walkFrom n j w ≡ resultOf (Fail c) v
       unfolding walkFrom
       walk-refused = turns-refused turn n j i w (f .low) (omega (arith, f .high, en)) (λ m a b. turn-idle m w (f .skipped m a b)) l o v turn-is
+
+-- the walk from `area₀` and `tally₀` has come to row j of n rows: what is left of it is what the whole was
+pub record Walking (b : List ℕ) (tally₀ area₀ tally area : List ℤ) (t : ℕ) (sought : Cell) (given : Given) (n j : ℕ) : Type 0 where
+  pub low : j ≤ n
+  pub size : length area ≡ length area₀
+  pub follows : Follows (schemaOf b) tally₀ area₀ tally area
+  pub rest : foundChanges (schemaOf b) t sought given (workOf (schemaOf b) area₀) ≡ walkFrom (schemaOf b) t sought given n j (workOf (schemaOf b) area)

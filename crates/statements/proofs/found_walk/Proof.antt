@@ -1,24 +1,15 @@
-use mathlib.Core.Path.{_≡_, refl, sym, _∙_}
-use Prim.Native.Nat.{_-_, _≤_, _<_}
+use mathlib.Core.Path.{refl, sym, _∙_}
+use Prim.Native.Nat.{_-_, _<_}
 use native.Mathlib.Omega.{arith}
 use borrow.Author.Needs.{needs}
-use lib.ListN.{length}
 use Rattle.schema.specs.Fields.{schemaOf}
-use Rattle.bridge.specs.Fit.{workOf}
-use Rattle.moves.specs.Tally.{Follows}
 use Rattle.moves.proofs.TallyLaws.{follows-refl, follows-trans, tallied-after}
-use Rattle.found.specs.Sought.{foundChanges}
-use Rattle.statements.proofs.FoundLaws.{walkFrom}
 use Rattle.statements.proofs.FoundLaws as law
 use Rattle.statements.proofs.found_walk.Statement.{statement}
 use Rattle.statements.proofs.found_walk.Tie as tie
 
 abbrev Inv-loop : tie.InvT-loop
-Inv-loop schema area₀ tally₀ t sought given n j₀ area tally j =
-    (j ≤ n)
-    × ((length area ≡ length area₀)
-    × (Follows (schemaOf schema) tally₀ area₀ tally area
-    × (foundChanges (schemaOf schema) t sought given (workOf (schemaOf schema) area₀) ≡ walkFrom (schemaOf schema) t sought given n j (workOf (schemaOf schema) area))))
+Inv-loop schema area₀ tally₀ t sought given n j₀ area tally j = law.Walking schema tally₀ area₀ tally area t sought given n j
 
 abbrev μ-loop : tie.MeasureT-loop
 μ-loop schema area₀ tally₀ t sought given n j₀ area tally j = n - j
@@ -27,12 +18,12 @@ rows-requires : tie.Need-rows-requires Inv-loop μ-loop
 rows-requires c κs = (c .before .pre .0 .ready .accepted, c .before .pre .1 .table)
 
 loop-holds : tie.Need-loop-holds Inv-loop μ-loop
-loop-holds c = (search needs, (refl, (follows-refl (c .before .before .pre .0 .ready .fit), law.walk-start _ _ _ _ _ (c .rows .ensures .0))))
+loop-holds c = record { low = omega arith; size = refl; follows = follows-refl (c .before .before .pre .0 .ready .fit); rest = law.walk-start _ _ _ _ _ (c .rows .ensures .0) }
 
 next-found-requires : tie.Need-next-found-requires Inv-loop μ-loop
 next-found-requires c κs =
     let s = c .before .before .before .before .before in
-    ((tallied-after (s .pre .0) (c .before .before .loop .inv .1 .1 .0) .ready, s .pre .1 .table), (s .pre .1 .column, omega (arith, c .before .before .before .rows .ensures .0, c .before .before .loop .inv .0)))
+    ((tallied-after (s .pre .0) (c .before .before .loop .inv .follows) .ready, s .pre .1 .table), (s .pre .1 .column, omega (arith, c .before .before .before .rows .ensures .0, c .before .before .loop .inv .low)))
 
 same-length : tie.Need-same-length Inv-loop μ-loop
 same-length c = search needs
@@ -45,29 +36,25 @@ returns c =
     let l = c .before .before .before .before .loop in
     let rows = c .before .before .before .before .before .rows in
     let next = c .before .next-found in
-    (sym (l .inv .1 .1 .1 ∙ law.walk-past sc (a .t) (a .sought) (a .given) (rows .result) (l .j) (next .result) _ (rows .ensures .0) (next .ensures) (c .if1 .taken)), l .inv .1 .1 .0)
+    (sym (l .inv .rest ∙ law.walk-past sc (a .t) (a .sought) (a .given) (rows .result) (l .j) (next .result) _ (rows .ensures .0) (next .ensures) (c .if1 .taken)), l .inv .follows)
 
 image-given-requires : tie.Need-image-given-requires Inv-loop μ-loop
 image-given-requires c κs =
     let s = c .before .before .before .before .before .before .before .before in
-    let a = s .args in
-    let sc = schemaOf (a .schema .now) in
     let l = c .before .before .before .before .before .loop in
     let rows = c .before .before .before .before .before .before .rows in
     let next = c .before .before .next-found in
     let lt : next .result < rows .result = omega (arith, c .before .if1 .left) in
-    (record { ready = tallied-after (s .pre .0) (l .inv .1 .1 .0) .ready; table = s .pre .1 .table; row = omega (arith, lt, rows .ensures .0) }, s .pre .1 .set)
+    (record { ready = tallied-after (s .pre .0) (l .inv .follows) .ready; table = s .pre .1 .table; row = omega (arith, lt, rows .ensures .0) }, s .pre .1 .set)
 
 row-change-requires : tie.Need-row-change-requires Inv-loop μ-loop
 row-change-requires c κs =
     let s = c .before .before .before .before .before .before .before .before .before .before .before in
-    let a = s .args in
-    let sc = schemaOf (a .schema .now) in
     let l = c .before .before .before .before .before .before .before .before .loop in
     let rows = c .before .before .before .before .before .before .before .before .before .rows in
     let next = c .before .before .before .before .before .next-found in
     let lt : next .result < rows .result = omega (arith, c .before .before .before .before .if1 .left) in
-    record { tallied = tallied-after (s .pre .0) (l .inv .1 .1 .0); table = s .pre .1 .table; row = omega (arith, lt, rows .ensures .0) }
+    record { tallied = tallied-after (s .pre .0) (l .inv .follows); table = s .pre .1 .table; row = omega (arith, lt, rows .ensures .0) }
 
 enum-told : tie.Need-enum-told Inv-loop μ-loop
 enum-told c = search needs
@@ -87,7 +74,7 @@ returns-2 c =
     let rows = c .before .before .before .before .before .before .before .before .before .before .before .before .before .before .rows in
     let next = c .before .before .before .before .before .before .before .before .before .before .next-found in
     let lt : next .result < rows .result = omega (arith, c .before .before .before .before .before .before .before .before .before .if1 .left) in
-    (sym (l .inv .1 .1 .1 ∙ law.walk-refused sc (a .t) (a .sought) (a .given) (rows .result) (l .j) (next .result) _ (rows .ensures .0) (next .ensures) lt (c .before .before .before .before .before .before .before .image-given .ensures) _ _ (c .before .before .before .before .row-change .ensures .0) (c .before .c .given .1)), follows-trans (l .inv .1 .1 .0) (c .before .before .before .before .row-change .ensures .1))
+    (sym (l .inv .rest ∙ law.walk-refused sc (a .t) (a .sought) (a .given) (rows .result) (l .j) (next .result) _ (rows .ensures .0) (next .ensures) lt (c .before .before .before .before .before .before .before .image-given .ensures) _ _ (c .before .before .before .before .row-change .ensures .0) (c .before .c .given .1)), follows-trans (l .inv .follows) (c .before .before .before .before .row-change .ensures .1))
 
 add-j : tie.Need-add-j Inv-loop μ-loop
 add-j c = search needs
@@ -104,13 +91,20 @@ loop-again c =
     let rows = c .before .before .before .before .before .before .before .before .before .before .before .before .before .rows in
     let next = c .before .before .before .before .before .before .before .before .before .next-found in
     let lt : next .result < rows .result = omega (arith, c .before .before .before .before .before .before .before .before .if1 .left) in
-    (omega (arith, lt), (search needs, (follows-trans (l .inv .1 .1 .0) (c .before .before .before .row-change .ensures .1), l .inv .1 .1 .1 ∙ law.walk-done sc (a .t) (a .sought) (a .given) (rows .result) (l .j) (next .result) _ (rows .ensures .0) (next .ensures) lt (c .before .before .before .before .before .before .image-given .ensures) _ _ (c .before .before .before .row-change .ensures .0) (c .enum-told .given .1))))
+    record {
+      low = omega (arith, lt);
+      size = search needs;
+      follows = follows-trans (l .inv .follows) (c .before .before .before .row-change .ensures .1);
+      rest =
+          l .inv .rest
+          ∙ law.walk-done sc (a .t) (a .sought) (a .given) (rows .result) (l .j) (next .result) _ (rows .ensures .0) (next .ensures) lt (c .before .before .before .before .before .before .image-given .ensures) _ _ (c .before .before .before .row-change .ensures .0) (c .enum-told .given .1);
+    }
 
 same-length-3 : tie.Need-same-length-3 Inv-loop μ-loop
 same-length-3 c = search needs
 
 returns-3 : tie.Need-returns-3 Inv-loop μ-loop
-returns-3 c = let l = c .before .loop in (sym (l .inv .1 .1 .1 ∙ law.walk-end _ _ _ _ _ _ _ (omega (arith, c .loop-test .left))), l .inv .1 .1 .0)
+returns-3 c = let l = c .before .loop in (sym (l .inv .rest ∙ law.walk-end _ _ _ _ _ _ _ (omega (arith, c .loop-test .left))), l .inv .follows)
 
 pub found-walk-spec : {M : Type 1} → statement M
 found-walk-spec =
