@@ -1,7 +1,7 @@
 -- Keys are equal either way round, and a row's padding does not matter to them.
 -- Assumes nothing.
 use mathlib.Core.Path.{_≡_, refl, _∙_, ap, ap₂}
-use mathlib.Core.Bool.{Bool, true, false, not, _&&_}
+use mathlib.Core.Bool.{Bool, true, false, not, _&&_, false≢true}
 use mathlib.Core.List.{List, [], _∷_, _++_}
 use Prim.Native.Nat.{ℕ, zero, suc, _-_}
 use lib.IntN.{ℤ}
@@ -13,6 +13,25 @@ use Rattle.rules.specs.Lists.{𝟘, padded, any}
 use Rattle.rules.specs.Values.{natOf, sameValue}
 use Rattle.rules.specs.Rows.{Row, liveState, live, nullAt, valueAt}
 use Rattle.rules.specs.Keys.{sameCell, sameKey, fullKey, mapsTo, due, serves, orphan}
+
+-- ---- equal keys, column by column
+
+module _ (x y : Row) where
+  pub key-first : (c d : ℕ) (cs ds : List ℕ) → sameKey (c ∷ cs) (d ∷ ds) x y ≡ true → sameCell x y c d ≡ true
+  unfolding sameKey
+  key-first c d cs ds h = by (sameCell x y c d) h
+    where
+      by : (b : Bool) → elim b [ true ↦ sameKey cs ds x y | false ↦ false ] ≡ true → b ≡ true
+      by true e = refl
+      by false e = e
+
+  pub key-rest : (c d : ℕ) (cs ds : List ℕ) → sameKey (c ∷ cs) (d ∷ ds) x y ≡ true → sameKey cs ds x y ≡ true
+  unfolding sameKey
+  key-rest c d cs ds h = by (sameCell x y c d) h
+    where
+      by : (b : Bool) → elim b [ true ↦ sameKey cs ds x y | false ↦ false ] ≡ true → sameKey cs ds x y ≡ true
+      by true e = e
+      by false e = absurd (false≢true e)
 
 -- ---- either way round
 

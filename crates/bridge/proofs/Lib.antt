@@ -18,4 +18,5 @@ pub mod Bits
 pub mod HoldLaws
 pub mod SoundLaws
 pub mod KeyLaws
+pub mod ValueLaws
 pub mod Zeros

@@ -15,7 +15,7 @@ use Rattle.rules.specs.Rows.{Row, Tables, live, valueAt, nullAt}
 use Rattle.rules.specs.Keys.{sameCell, sameKey, fullKey, mapsTo, due, serves, takes, sameParentKey, fires}
 use Rattle.bridge.proofs.CountLaws.{count-none}
 use Rattle.bridge.proofs.Bits.{same-eq}
-use Rattle.bridge.proofs.KeyLaws.{key-sym}
+use Rattle.bridge.proofs.KeyLaws.{key-sym, key-first, key-rest}
 use Rattle.moves.specs.Movement.{pick, except, exceptIf, stranded, strandedRows}
 
 -- ---- keys that equal one key equal each other
@@ -30,22 +30,6 @@ module _ (x y : Row) where
       let right : not (nullAt y d) ≡ true = and-right (not (nullAt x c)) (not (nullAt y d)) full in
       rw (values, left, right) refl
 
-  pub first : (c d : ℕ) (cs ds : List ℕ) → sameKey (c ∷ cs) (d ∷ ds) x y ≡ true → sameCell x y c d ≡ true
-  unfolding sameKey
-  first c d cs ds h = by (sameCell x y c d) h
-    where
-      by : (b : Bool) → elim b [ true ↦ sameKey cs ds x y | false ↦ false ] ≡ true → b ≡ true
-      by true e = refl
-      by false e = e
-
-  pub rest : (c d : ℕ) (cs ds : List ℕ) → sameKey (c ∷ cs) (d ∷ ds) x y ≡ true → sameKey cs ds x y ≡ true
-  unfolding sameKey
-  rest c d cs ds h = by (sameCell x y c d) h
-    where
-      by : (b : Bool) → elim b [ true ↦ sameKey cs ds x y | false ↦ false ] ≡ true → sameKey cs ds x y ≡ true
-      by true e = e
-      by false e = absurd (false≢true e)
-
   -- the columns of the two keys are as many
   key-trans : (z : Row) (es cs ds : List ℕ) → length cs ≡ length ds → sameKey cs ds x y ≡ true → sameKey es cs z x ≡ sameKey es ds z y
   unfolding sameKey
@@ -54,7 +38,7 @@ module _ (x y : Row) where
   key-trans z (e ∷ es) [] (d ∷ ds) l h = absurd (omega arith)
   key-trans z (e ∷ es) (c ∷ cs) [] l h = absurd (omega arith)
   key-trans z (e ∷ es) (c ∷ cs) (d ∷ ds) l h =
-      ap₂ (λ (a b : Bool). elim a [ true ↦ b | false ↦ false ]) (cell-trans z e c d (first c d cs ds h)) (key-trans z es cs ds (omega arith) (rest c d cs ds h))
+      ap₂ (λ (a b : Bool). elim a [ true ↦ b | false ↦ false ]) (cell-trans z e c d (key-first x y c d cs ds h)) (key-trans z es cs ds (omega arith) (key-rest x y c d cs ds h))
 
 -- a key that equals another has no NULL
 full-left : (x y : Row) (cs ds : List ℕ) → length cs ≡ length ds → sameKey cs ds x y ≡ true → sameKey cs cs x x ≡ true

@@ -33,13 +33,13 @@ examples =
     }
     -- a composite key with one NULL is no orphan
     ∷ record {
-      schema = pairKey;
+      schema = pairKey 0;
       sent = insert 1 0 2 (pos 7 ∷ []) ∷ insert 1 1 0 (pos 7 ∷ pos 8 ∷ []) ∷ [];
       answered = one ∷ (20, 0, pos 0) ∷ [];
     }
     -- a unique key with NULL equals none
     ∷ record {
-      schema = pairKey;
+      schema = pairKey 0;
       sent = insert 0 0 2 (pos 7 ∷ []) ∷ insert 0 1 2 (pos 7 ∷ []) ∷ update 0 0 0 (pos 7 ∷ pos 8 ∷ []) ∷ update 0 1 0 (pos 7 ∷ pos 8 ∷ []) ∷ [];
       answered = one ∷ one ∷ one ∷ (17, 0, pos 0) ∷ [];
     }

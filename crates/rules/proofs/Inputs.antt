@@ -54,12 +54,12 @@ unfoldable pub crossedKeys : List ℕ
 unfolding schemaBytes tableBytes keyBytes
 crossedKeys = schemaBytes 2 2 8 (tableBytes 2 1 1 1 ++ tableBytes 3 2 0 0 ++ keyBytes 1 1 0 0 1 0 0 ++ keyBytes 1 0 0 0 1 0 0)
 
--- a key of two columns from table 1 to table 0
-unfoldable pub pairKey : List ℕ
+-- a key of two columns from table 1 to table 0, with one action
+unfoldable pub pairKey : ℕ → List ℕ
 unfolding schemaBytes tableBytes
-pairKey =
+pairKey action =
     schemaBytes 2 1 8
-    (tableBytes 2 2 0 3 ++ tableBytes 2 2 0 0 ++ (1 ∷ 0 ∷ 0 ∷ 0 ∷ 0 ∷ 2 ∷ 0 ∷ 1 ∷ 255 ∷ 255 ∷ 0 ∷ 1 ∷ 255 ∷ 255 ∷ 0 ∷ 0 ∷ []))
+    (tableBytes 2 2 0 3 ++ tableBytes 4 2 0 0 ++ (1 ∷ 0 ∷ 0 ∷ action ∷ action ∷ 2 ∷ 0 ∷ 1 ∷ 255 ∷ 255 ∷ 0 ∷ 1 ∷ 255 ∷ 255 ∷ 0 ∷ 0 ∷ []))
 
 -- ---- calls, as twelve words
 

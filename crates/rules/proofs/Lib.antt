@@ -4,3 +4,4 @@ pub mod Computed
 pub mod PaperCases
 pub mod Examples
 pub mod ManyRows
+pub mod OldKey

@@ -9,6 +9,7 @@ pub mod Calls
 pub mod State
 pub mod Change
 pub mod Found
+pub mod KeyValues
 pub mod Statement
 pub mod Step
 pub mod Area

@@ -1,0 +1,37 @@
+-- A key as plain values: "for any old key given as plain values .., a child row is found at its turn exactly if it is live and has that key".
+-- Assumes nothing.
+use mathlib.Core.Bool.{Bool, true, false, _&&_}
+use mathlib.Core.List.{List, [], _∷_, map}
+use Prim.Native.Nat.{ℕ}
+use lib.IntN.{ℤ}
+use Rattle.schema.specs.Records.{ForeignKey, Schema}
+use Rattle.rules.specs.Rows.{Row, Tables, rowAt, image, live, valueAt}
+use Rattle.rules.specs.Book.{Work}
+use Rattle.rules.specs.Change.{Change, Result, given, inTurn, taken, actionOf}
+use Rattle.rules.specs.Found.{cellIs}
+
+-- the values of a row in columns cs
+unfoldable pub keyValues : List ℕ → Row → List ℤ
+keyValues cs row = map (valueAt row) cs
+
+-- columns cs hold the values vs, and none of them is NULL
+unfoldable pub holdsKey : List ℕ → List ℤ → Row → Bool
+holdsKey [] vs row = true
+holdsKey (c ∷ cs) [] row = true
+holdsKey (c ∷ cs) (v ∷ vs) row = cellIs false v c row && holdsKey cs vs row
+
+-- the row "is live and has that key"
+unfoldable pub hasKey : List ℕ → List ℤ → Row → Bool
+hasKey cs vs row = live row && holdsKey cs vs row
+
+-- child row i has the values vs in the child columns
+unfoldable pub childHasKey : ForeignKey → List ℤ → Tables → ℕ → Bool
+childHasKey k vs tabs i = hasKey (k .childColumns) vs (rowAt (k .child) i tabs)
+
+-- `rowTurn` and `children` of a row change, with the values of the old key in place of the old row
+module _ (change : Change) (s : Schema) (new : Row) where
+  unfoldable pub turnByValues : ForeignKey → List ℤ → ℕ → Work → Result
+  turnByValues k vs i w = given (childHasKey k vs (w .tabs) i) (taken change s new (actionOf new k) k i (image (k .child) i (w .tabs))) w
+
+  unfoldable pub childrenByValues : ForeignKey → List ℤ → List ℕ → Work → Result
+  childrenByValues k vs = inTurn (turnByValues k vs)
