@@ -1,2 +1,3 @@
 pub mod Standing
 pub mod KeyColumns
+pub mod Sought

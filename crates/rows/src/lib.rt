@@ -11,9 +11,12 @@ ghost use Rattle.schema.specs.Check.{checkSchema};
 ghost use Rattle.rules.specs.Lists;
 ghost use Rattle.rules.specs.Rows;
 ghost use Rattle.rules.specs.Keys;
+ghost use Rattle.rules.specs.Found.{cellIs, isFound};
+ghost use Rattle.rules.specs.KeyValues.{keyValues, holdsKey};
 ghost use Rattle.rules.specs.Change;
 ghost use Rattle.bridge.specs.Ready.{rowIn};
 ghost use Rattle.rows.specs.Standing.{RowAt, RowsOf};
+ghost use Rattle.rows.specs.Sought.{soughtColumns, soughtValues, hasSought, SoughtIn, SoughtOf};
 use schema::SchemaAnswer;
 
 // The rows of a table: their first word, the words of a row, how many there are.
@@ -21,6 +24,13 @@ pub struct TableRows {
     pub start: usize,
     pub width: usize,
     pub count: usize,
+}
+
+// A sought key: its n columns in the rows that are searched, and the values that they must have. None of them is NULL.
+pub struct SoughtKey {
+    pub n: usize,
+    pub cs: [usize; 8],
+    pub vs: [i64; 8],
 }
 
 // ---- rows and keys
@@ -39,106 +49,19 @@ pub fn image_live(image: [i64; 9]) -> bool
     is_live(words::nat_of(image[0]))
 }
 
-// Whether column c of the row at p and column d of an image are equal.
-pub fn same_cell(area: &[i64], p: usize, w: usize, other: &[i64; 9], c: usize, d: usize) -> bool
-    requires { ⌜ RowAt (now area) p w × ((suc c < w) × (suc d < 9)) ⌝ }
-    ensures { λ x. ⌜ x ≡ Keys.sameCell (rowIn (now (area .entry)) p w) (now (other .entry)) c d ⌝ }
-{
-    let v = area[p + c + 1];
-    let u = other[d + 1];
-    if !words::same_word(v, u) {
-        return false;
-    }
-    let s = words::nat_at(area, p);
-    if numbers::bit_of(c, s) {
-        return false;
-    }
-    let o = words::nat_of(other[0]);
-    !numbers::bit_of(d, o)
-}
-
-// Whether the key of the row at p, in n columns, and that of an image are equal.
-pub fn same_key(
-    area: &[i64],
-    p: usize,
-    w: usize,
-    other: &[i64; 9],
-    n: usize,
-    cs: &[usize; 8],
-    ds: &[usize; 8],
-) -> bool
-    requires { ⌜ RowAt (now area) p w × (Columns w n (now cs) × Columns 9 n (now ds)) ⌝ }
-    ensures { λ x. ⌜ x ≡ Keys.sameKey (take n (now (cs .entry))) (take n (now (ds .entry))) (rowIn (now (area .entry)) p w) (now (other .entry)) ⌝ }
+// Whether one of n columns is NULL, by the state.
+fn some_null(state: usize, n: usize, cs: [usize; 8]) -> bool
+    requires { ⌜ Columns 9 n cs ⌝ }
+    ensures { λ x. ⌜ x ≡ Lists.any (λ c. bit c state) (take n cs) ⌝ }
 {
     let mut i = 0;
     while i < n {
-        let c = cs[i];
-        let d = ds[i];
-        if !same_cell(area, p, w, other, c, d) {
-            return false;
+        if numbers::bit_of(cs[i], state) {
+            return true;
         }
         i += 1;
     }
-    true
-}
-
-// Whether the first of n columns tells that the key of the row at p is not that of an image.
-fn first_differs(
-    area: &[i64],
-    p: usize,
-    w: usize,
-    other: &[i64; 9],
-    n: usize,
-    cs: &[usize; 8],
-    ds: &[usize; 8],
-) -> bool
-    requires { ⌜ RowAt (now area) p w × (Columns w n (now cs) × Columns 9 n (now ds)) ⌝ }
-    ensures { λ x. ⌜ (x ≡ true → Keys.sameKey (take n (now (cs .entry))) (take n (now (ds .entry))) (rowIn (now (area .entry)) p w) (now (other .entry)) ≡ false) ⌝ }
-{
-    if n == 0 {
-        return false;
-    }
-    let c = cs[0];
-    let d = ds[0];
-    let v = area[p + c + 1];
-    let u = other[d + 1];
-    !words::same_word(v, u)
-}
-
-// Whether the row at p is live and has an image's key.
-pub fn has_key(
-    area: &[i64],
-    p: usize,
-    w: usize,
-    other: &[i64; 9],
-    n: usize,
-    cs: &[usize; 8],
-    ds: &[usize; 8],
-) -> bool
-    requires { ⌜ RowAt (now area) p w × (Columns w n (now cs) × Columns 9 n (now ds)) ⌝ }
-    ensures { λ x. ⌜ x ≡ Rows.live (rowIn (now (area .entry)) p w) && Keys.sameKey (take n (now (cs .entry))) (take n (now (ds .entry))) (rowIn (now (area .entry)) p w) (now (other .entry)) ⌝ }
-{
-    if first_differs(area, p, w, other, n, cs, ds) {
-        return false;
-    }
-    if !same_key(area, p, w, other, n, cs, ds) {
-        return false;
-    }
-    is_live(words::nat_at(area, p))
-}
-
-// Whether an image is live and has another's key.
-pub fn image_has_key(
-    image: [i64; 9],
-    other: [i64; 9],
-    n: usize,
-    cs: [usize; 8],
-    ds: [usize; 8],
-) -> bool
-    requires { ⌜ Columns 9 n cs × Columns 9 n ds ⌝ }
-    ensures { λ x. ⌜ x ≡ Rows.live image && Keys.sameKey (take n cs) (take n ds) image other ⌝ }
-{
-    has_key(&image[0..9], 0, 9, &other, n, &cs, &ds)
+    false
 }
 
 // Whether an image is live and has no NULL in its key.
@@ -146,10 +69,102 @@ pub fn image_full_key(image: [i64; 9], n: usize, cs: [usize; 8]) -> bool
     requires { ⌜ Columns 9 n cs ⌝ }
     ensures { λ x. ⌜ x ≡ Keys.fullKey (take n cs) image ⌝ }
 {
-    if !image_live(image) {
+    let state = words::nat_of(image[0]);
+    if !is_live(state) {
         return false;
     }
-    image_has_key(image, image, n, cs, cs)
+    !some_null(state, n, cs)
+}
+
+// ---- sought keys
+
+// The values of an image in n columns, at the start of an array.
+fn key_values(image: [i64; 9], n: usize, ds: [usize; 8]) -> [i64; 8]
+    requires { ⌜ Columns 9 n ds ⌝ }
+    ensures { λ x. ⌜ take n x ≡ keyValues (take n ds) image ⌝ }
+{
+    let mut vs = [0i64; 8];
+    let mut i = 0;
+    while i < n {
+        let d = ds[i];
+        vs[i] = image[d + 1];
+        i += 1;
+    }
+    vs
+}
+
+// The key of an image with no NULL in it, to be searched for in columns cs.
+pub fn sought_key(image: [i64; 9], n: usize, cs: [usize; 8], ds: [usize; 8]) -> SoughtKey
+    requires { ⌜ Columns 9 n ds × (Keys.fullKey (take n ds) image ≡ true) ⌝ }
+    ensures { λ x. ⌜ SoughtOf n cs ds image x ⌝ }
+{
+    let vs = key_values(image, n, ds);
+    SoughtKey {
+        n: n,
+        cs: cs,
+        vs: vs,
+    }
+}
+
+// Whether column c of the row at p is not NULL and has the value v.
+fn holds_value(area: &[i64], p: usize, w: usize, c: usize, v: i64) -> bool
+    requires { ⌜ RowAt (now area) p w × (suc c < w) ⌝ }
+    ensures { λ x. ⌜ x ≡ cellIs false v c (rowIn (now (area .entry)) p w) ⌝ }
+{
+    let u = area[p + c + 1];
+    if !words::same_word(u, v) {
+        return false;
+    }
+    let s = words::nat_at(area, p);
+    !numbers::bit_of(c, s)
+}
+
+// Whether the row at p is live, and its column c is not NULL and has the value v.
+pub fn has_value(area: &[i64], p: usize, w: usize, c: usize, v: i64) -> bool
+    requires { ⌜ RowAt (now area) p w × (suc c < w) ⌝ }
+    ensures { λ x. ⌜ x ≡ isFound c false v (rowIn (now (area .entry)) p w) ⌝ }
+{
+    if !holds_value(area, p, w, c, v) {
+        return false;
+    }
+    is_live(words::nat_at(area, p))
+}
+
+// Whether the row at p has no NULL in a sought key's columns, and has its values there.
+fn holds_key(area: &[i64], p: usize, w: usize, key: SoughtKey) -> bool
+    requires { ⌜ RowAt (now area) p w × SoughtIn w key ⌝ }
+    ensures { λ x. ⌜ x ≡ holdsKey (soughtColumns key) (soughtValues key) (rowIn (now (area .entry)) p w) ⌝ }
+{
+    let n = key.n;
+    let mut i = 0;
+    while i < n {
+        let c = key.cs[i];
+        let v = key.vs[i];
+        if !holds_value(area, p, w, c, v) {
+            return false;
+        }
+        i += 1;
+    }
+    true
+}
+
+// Whether the row at p is live and has a sought key.
+pub fn has_key(area: &[i64], p: usize, w: usize, key: SoughtKey) -> bool
+    requires { ⌜ RowAt (now area) p w × SoughtIn w key ⌝ }
+    ensures { λ x. ⌜ x ≡ hasSought key (rowIn (now (area .entry)) p w) ⌝ }
+{
+    if !holds_key(area, p, w, key) {
+        return false;
+    }
+    is_live(words::nat_at(area, p))
+}
+
+// Whether an image has no NULL in a sought key's columns, and has its values there.
+fn image_holds_key(image: [i64; 9], key: SoughtKey) -> bool
+    requires { ⌜ SoughtIn 9 key ⌝ }
+    ensures { λ x. ⌜ x ≡ holdsKey (soughtColumns key) (soughtValues key) image ⌝ }
+{
+    holds_key(&image[0..9], 0, 9, key)
 }
 
 // ---- NOT NULL
@@ -240,7 +255,7 @@ pub fn mask_columns(m: usize) -> [usize; 8]
 
 // ---- what an action looks at
 
-// Whether an old parent key without NULL is not the new one.
+// Whether an old parent key without NULL is not the new one. A deleted row has none.
 fn key_changes(old: [i64; 9], new: [i64; 9], n: usize, ps: [usize; 8]) -> bool
     requires { ⌜ Columns 9 n ps ⌝ }
     ensures { λ x. ⌜ x ≡ Keys.fullKey (take n ps) old && not (Rows.live new && Keys.sameKey (take n ps) (take n ps) new old) ⌝ }
@@ -248,7 +263,11 @@ fn key_changes(old: [i64; 9], new: [i64; 9], n: usize, ps: [usize; 8]) -> bool
     if !image_full_key(old, n, ps) {
         return false;
     }
-    !image_has_key(new, old, n, ps, ps)
+    if !image_live(new) {
+        return true;
+    }
+    let key = sought_key(old, n, ps, ps);
+    !image_holds_key(new, key)
 }
 
 // Whether actions of foreign key k follow the change of a row of table t from `old` to `new`.

@@ -1,7 +1,7 @@
 -- The rows of a table but for one, in two parts.
 -- Assumes nothing.
 use mathlib.Core.Path.{_≡_, refl, sym, _∙_, ap, ap₂}
-use mathlib.Core.Bool.{Bool, true, false, _&&_, _||_}
+use mathlib.Core.Bool.{Bool, true, false, _||_}
 use mathlib.Core.List.{List, [], _∷_, _++_}
 use Prim.Native.Nat.{ℕ, zero, suc, _+_, _*_, _-_, _≤_, _<_}
 use native.Mathlib.Omega.{arith}
@@ -9,22 +9,17 @@ use native.Mathlib.Nat.{mul-le-mul-right, add-mul}
 use lib.IntN.{ℤ}
 use lib.ListN.{length, take, drop, length-drop}
 use lib.Seq.{ext-getD, length-take-le, getD-take, getD-drop}
-use Rattle.schema.specs.Bounds.{Columns}
 use Rattle.rules.specs.Lists.{any, count}
-use Rattle.rules.specs.Rows.{Row, live}
-use Rattle.rules.specs.Keys.{sameKey}
+use Rattle.rules.specs.Rows.{Row}
 use Rattle.moves.specs.Movement.{except}
 use Rattle.bridge.proofs.CountLaws.{any-append, count-append}
 use Rattle.bridge.specs.Ready.{rowIn}
+use Rattle.rows.specs.declared.SoughtKey.{SoughtKey}
 use Rattle.rows.specs.declared.TableRows.{TableRows}
+use Rattle.rows.specs.Sought.{SoughtIn}
 use Rattle.rows.specs.Standing.{Standing, rowsIn}
 use Rattle.rows.proofs.TableLaws.{rows-many, row-get}
-use Rattle.skips.specs.WithKey.{withKey}
 use Rattle.scans.specs.Parts.{rowsBefore, rowsAfter}
-
-pub with-key : (cs ds : List ℕ) (image row : Row) → live row && sameKey cs ds row image ≡ withKey cs ds image row
-unfolding withKey
-with-key cs ds image row = refl
 
 -- ---- a list but for one place
 
@@ -92,11 +87,11 @@ module _ (a : List ℤ) (t : TableRows) (r : ℕ) (h : r < t .count) where
       }
 
   -- what a scan requires holds of each part
-  pub before-ready : {n : ℕ} {cs ds : List ℕ} {x : TableRows} → Standing a t → (1 ≤ n) × (Columns (t .width) n cs × Columns 9 n ds) → x ≡ rowsBefore t r → Standing a x × ((1 ≤ n) × (Columns (x .width) n cs × Columns 9 n ds))
+  pub before-ready : {key : SoughtKey} {x : TableRows} → Standing a t → (1 ≤ key .n) × SoughtIn (t .width) key → x ≡ rowsBefore t r → Standing a x × ((1 ≤ key .n) × SoughtIn (x .width) key)
   unfolding rowsBefore
   before-ready s k e = rw e (before-stands s, k)
 
-  pub after-ready : {n : ℕ} {cs ds : List ℕ} {x : TableRows} → Standing a t → (1 ≤ n) × (Columns (t .width) n cs × Columns 9 n ds) → x ≡ rowsAfter t r → Standing a x × ((1 ≤ n) × (Columns (x .width) n cs × Columns 9 n ds))
+  pub after-ready : {key : SoughtKey} {x : TableRows} → Standing a t → (1 ≤ key .n) × SoughtIn (t .width) key → x ≡ rowsAfter t r → Standing a x × ((1 ≤ key .n) × SoughtIn (x .width) key)
   unfolding rowsAfter
   after-ready s k e = rw e (after-stands s, k)
 

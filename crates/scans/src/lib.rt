@@ -1,147 +1,101 @@
 // Scans of a table's rows for a key.
 ghost use mathlib.Core.Path.{_≡_};
-ghost use Prim.Native.Nat.{_+_, _*_, _≤_, _<_};
-ghost use lib.ListN.{take};
-ghost use Rattle.schema.specs.Bounds.{Columns};
+ghost use mathlib.Core.Bool.{false};
+ghost use Prim.Native.Nat.{suc, _+_, _*_, _≤_, _<_};
 ghost use Rattle.rules.specs.Lists;
+ghost use Rattle.rules.specs.Found.{isFound};
 ghost use Rattle.moves.specs.Movement.{except};
 ghost use Rattle.bridge.specs.Ready.{rowIn};
 ghost use Rattle.rows.specs.Standing.{RowAt, Standing, rowsIn};
-ghost use Rattle.skips.specs.WithKey.{withKey, withKeyAt};
+ghost use Rattle.rows.specs.Sought.{hasSought, SoughtIn};
+ghost use Rattle.skips.specs.Skipped.{firstWords};
 ghost use Rattle.scans.specs.Parts.{rowsBefore, rowsAfter};
-ghost use Rattle.scans.specs.FirstFrom.{FirstFrom};
+ghost use Rattle.scans.specs.FirstFrom.{FirstRow};
+use rows::SoughtKey;
 use rows::TableRows;
+use skips::TwoWords;
 
 // ---- all rows
 
-// The first row from `from` on that is live and has an image's key of one column; the number of rows where there is none.
-fn first_in_column(
-    area: &[i64],
-    table: TableRows,
-    image: &[i64; 9],
-    cs: &[usize; 8],
-    ds: &[usize; 8],
-    from: usize,
-) -> usize
-    requires { ⌜ (Standing (now area) table × (from ≤ table .count)) × (Columns (table .width) 1 (now cs) × Columns 9 1 (now ds)) ⌝ }
-    ensures { λ x. ⌜ FirstFrom (withKeyAt (take 1 (now (cs .entry))) (take 1 (now (ds .entry))) (now (image .entry)) (rowsIn (now (area .entry)) table)) (table .count) from x ⌝ }
+// The first row from `from` on that is live and has the value v in column c; the number of rows where there is none.
+fn first_with_value(area: &[i64], table: TableRows, c: usize, v: i64, from: usize) -> usize
+    requires { ⌜ (Standing (now area) table × (from ≤ table .count)) × (suc c < table .width) ⌝ }
+    ensures { λ x. ⌜ FirstRow (isFound c false v) (now (area .entry)) table from x ⌝ }
 {
     let start = table.start;
     let w = table.width;
     let rows = table.count;
-    let sought = skips::sought_of(image, 1, cs, ds);
-    let mut j = skips::skip_column(area, table, sought, from);
-    while j < rows {
-        if rows::has_key(area, start + j * w, w, image, 1, cs, ds) {
-            return j;
+    let mut i = skips::skip_column(area, table, c + 1, v, from);
+    while i < rows {
+        if rows::has_value(area, start + i * w, w, c, v) {
+            return i;
         }
-        j = skips::skip_column(area, table, sought, j + 1);
+        i = skips::skip_column(area, table, c + 1, v, i + 1);
     }
     rows
 }
 
-// The first row from `from` on that is live and has an image's key of n columns; the number of rows where there is none.
-fn first_in_columns(
-    area: &[i64],
-    table: TableRows,
-    image: &[i64; 9],
-    n: usize,
-    cs: &[usize; 8],
-    ds: &[usize; 8],
-    from: usize,
-) -> usize
-    requires { ⌜ (Standing (now area) table × (from ≤ table .count)) × ((1 ≤ n) × (Columns (table .width) n (now cs) × Columns 9 n (now ds))) ⌝ }
-    ensures { λ x. ⌜ FirstFrom (withKeyAt (take n (now (cs .entry))) (take n (now (ds .entry))) (now (image .entry)) (rowsIn (now (area .entry)) table)) (table .count) from x ⌝ }
+// Whether the row at p is live and has a sought key of two columns or more; most that have not are told by those two.
+fn has_composite(area: &[i64], p: usize, w: usize, pair: TwoWords, key: SoughtKey) -> bool
+    requires { ⌜ (RowAt (now area) p w × SoughtIn w key) × ((2 ≤ key .n) × (pair ≡ firstWords key)) ⌝ }
+    ensures { λ x. ⌜ x ≡ hasSought key (rowIn (now (area .entry)) p w) ⌝ }
+{
+    if !skips::is_alike(area, p, w, pair) {
+        return false;
+    }
+    rows::has_key(area, p, w, key)
+}
+
+// The same as `first_with_key`, for a key of two columns or more.
+fn first_with_composite(area: &[i64], table: TableRows, key: SoughtKey, from: usize) -> usize
+    requires { ⌜ (Standing (now area) table × (from ≤ table .count)) × ((2 ≤ key .n) × SoughtIn (table .width) key) ⌝ }
+    ensures { λ x. ⌜ FirstRow (hasSought key) (now (area .entry)) table from x ⌝ }
 {
     let start = table.start;
     let w = table.width;
     let rows = table.count;
-    let sought = skips::sought_of(image, n, cs, ds);
-    let mut j = skips::skip_rows(area, table, sought, from);
+    let pair = skips::first_words(key);
+    let mut j = skips::skip_rows(area, table, pair, from);
     while j < rows {
-        if rows::has_key(area, start + j * w, w, image, n, cs, ds) {
+        if has_composite(area, start + j * w, w, pair, key) {
             return j;
         }
-        j = skips::skip_rows(area, table, sought, j + 1);
+        j = skips::skip_rows(area, table, pair, j + 1);
     }
     rows
 }
 
-// The first row from `from` on that is live and has an image's key; the number of rows where there is none.
-pub fn first_with_key(
-    area: &[i64],
-    table: TableRows,
-    image: &[i64; 9],
-    n: usize,
-    cs: &[usize; 8],
-    ds: &[usize; 8],
-    from: usize,
-) -> usize
-    requires { ⌜ (Standing (now area) table × (from ≤ table .count)) × ((1 ≤ n) × (Columns (table .width) n (now cs) × Columns 9 n (now ds))) ⌝ }
-    ensures { λ x. ⌜ FirstFrom (withKeyAt (take n (now (cs .entry))) (take n (now (ds .entry))) (now (image .entry)) (rowsIn (now (area .entry)) table)) (table .count) from x ⌝ }
+// The first row from `from` on that is live and has a sought key; the number of rows where there is none.
+pub fn first_with_key(area: &[i64], table: TableRows, key: SoughtKey, from: usize) -> usize
+    requires { ⌜ (Standing (now area) table × (from ≤ table .count)) × ((1 ≤ key .n) × SoughtIn (table .width) key) ⌝ }
+    ensures { λ x. ⌜ FirstRow (hasSought key) (now (area .entry)) table from x ⌝ }
 {
-    if n == 1 {
-        return first_in_column(area, table, image, cs, ds, from);
+    if key.n == 1 {
+        return first_with_value(area, table, key.cs[0], key.vs[0], from);
     }
-    first_in_columns(area, table, image, n, cs, ds, from)
+    first_with_composite(area, table, key, from)
 }
 
-// Whether one of the rows is live and has an image's key.
-pub fn any_with_key(
-    area: &[i64],
-    table: TableRows,
-    image: &[i64; 9],
-    n: usize,
-    cs: &[usize; 8],
-    ds: &[usize; 8],
-) -> bool
-    requires { ⌜ Standing (now area) table × ((1 ≤ n) × (Columns (table .width) n (now cs) × Columns 9 n (now ds))) ⌝ }
-    ensures { λ x. ⌜ x ≡ Lists.any (withKey (take n (now (cs .entry))) (take n (now (ds .entry))) (now (image .entry))) (rowsIn (now (area .entry)) table) ⌝ }
+// Whether one of the rows is live and has a sought key.
+pub fn any_with_key(area: &[i64], table: TableRows, key: SoughtKey) -> bool
+    requires { ⌜ Standing (now area) table × ((1 ≤ key .n) × SoughtIn (table .width) key) ⌝ }
+    ensures { λ x. ⌜ x ≡ Lists.any (hasSought key) (rowsIn (now (area .entry)) table) ⌝ }
 {
-    let j = first_with_key(area, table, image, n, cs, ds, 0);
+    let j = first_with_key(area, table, key, 0);
     j < table.count
 }
 
-// 1 where the row at p is live and has an image's key, else 0.
-fn key_number(
-    area: &[i64],
-    p: usize,
-    w: usize,
-    image: &[i64; 9],
-    n: usize,
-    cs: &[usize; 8],
-    ds: &[usize; 8],
-) -> usize
-    requires { ⌜ RowAt (now area) p w × (Columns w n (now cs) × Columns 9 n (now ds)) ⌝ }
-    ensures { λ x. ⌜ (x ≡ Lists.one (withKey (take n (now (cs .entry))) (take n (now (ds .entry))) (now (image .entry)) (rowIn (now (area .entry)) p w))) × (x ≤ 1) ⌝ }
+// How many of the rows are live and have a sought key.
+pub fn count_with_key(area: &[i64], table: TableRows, key: SoughtKey) -> usize
+    requires { ⌜ Standing (now area) table × ((1 ≤ key .n) × SoughtIn (table .width) key) ⌝ }
+    ensures { λ x. ⌜ (x ≡ Lists.count (hasSought key) (rowsIn (now (area .entry)) table)) × (x ≤ table .count) ⌝ }
 {
-    if rows::has_key(area, p, w, image, n, cs, ds) {
-        return 1;
-    }
-    0
-}
-
-// How many of the rows are live and have an image's key.
-pub fn count_with_key(
-    area: &[i64],
-    table: TableRows,
-    image: &[i64; 9],
-    n: usize,
-    cs: &[usize; 8],
-    ds: &[usize; 8],
-) -> usize
-    requires { ⌜ Standing (now area) table × ((1 ≤ n) × (Columns (table .width) n (now cs) × Columns 9 n (now ds))) ⌝ }
-    ensures { λ x. ⌜ (x ≡ Lists.count (withKey (take n (now (cs .entry))) (take n (now (ds .entry))) (now (image .entry))) (rowsIn (now (area .entry)) table)) × (x ≤ table .count) ⌝ }
-{
-    let start = table.start;
-    let w = table.width;
     let rows = table.count;
-    let sought = skips::sought_of(image, n, cs, ds);
     let mut m = 0;
-    let mut j = skips::skip_rows(area, table, sought, 0);
+    let mut j = first_with_key(area, table, key, 0);
     while j < rows {
-        m += key_number(area, start + j * w, w, image, n, cs, ds);
-        j = skips::skip_rows(area, table, sought, j + 1);
+        m += 1;
+        j = first_with_key(area, table, key, j + 1);
     }
     m
 }
@@ -174,42 +128,26 @@ fn rows_after(area: &[i64], table: TableRows, r: usize) -> TableRows
     }
 }
 
-// Whether a row other than row r is live and has an image's key.
-pub fn other_with_key(
-    area: &[i64],
-    table: TableRows,
-    r: usize,
-    image: &[i64; 9],
-    n: usize,
-    cs: &[usize; 8],
-    ds: &[usize; 8],
-) -> bool
-    requires { ⌜ (Standing (now area) table × (r < table .count)) × ((1 ≤ n) × (Columns (table .width) n (now cs) × Columns 9 n (now ds))) ⌝ }
-    ensures { λ x. ⌜ x ≡ Lists.any (withKey (take n (now (cs .entry))) (take n (now (ds .entry))) (now (image .entry))) (except r (rowsIn (now (area .entry)) table)) ⌝ }
+// Whether a row other than row r is live and has a sought key.
+pub fn other_with_key(area: &[i64], table: TableRows, r: usize, key: SoughtKey) -> bool
+    requires { ⌜ (Standing (now area) table × (r < table .count)) × ((1 ≤ key .n) × SoughtIn (table .width) key) ⌝ }
+    ensures { λ x. ⌜ x ≡ Lists.any (hasSought key) (except r (rowsIn (now (area .entry)) table)) ⌝ }
 {
     let before = rows_before(table, r);
-    if any_with_key(area, before, image, n, cs, ds) {
+    if any_with_key(area, before, key) {
         return true;
     }
     let after = rows_after(area, table, r);
-    any_with_key(area, after, image, n, cs, ds)
+    any_with_key(area, after, key)
 }
 
-// How many rows other than row r are live and have an image's key.
-pub fn count_others_with_key(
-    area: &[i64],
-    table: TableRows,
-    r: usize,
-    image: &[i64; 9],
-    n: usize,
-    cs: &[usize; 8],
-    ds: &[usize; 8],
-) -> usize
-    requires { ⌜ (Standing (now area) table × (r < table .count)) × ((1 ≤ n) × (Columns (table .width) n (now cs) × Columns 9 n (now ds))) ⌝ }
-    ensures { λ x. ⌜ (x ≡ Lists.count (withKey (take n (now (cs .entry))) (take n (now (ds .entry))) (now (image .entry))) (except r (rowsIn (now (area .entry)) table))) × (x ≤ table .count) ⌝ }
+// How many rows other than row r are live and have a sought key.
+pub fn count_others_with_key(area: &[i64], table: TableRows, r: usize, key: SoughtKey) -> usize
+    requires { ⌜ (Standing (now area) table × (r < table .count)) × ((1 ≤ key .n) × SoughtIn (table .width) key) ⌝ }
+    ensures { λ x. ⌜ (x ≡ Lists.count (hasSought key) (except r (rowsIn (now (area .entry)) table))) × (x ≤ table .count) ⌝ }
 {
     let before = rows_before(table, r);
-    let m = count_with_key(area, before, image, n, cs, ds);
+    let m = count_with_key(area, before, key);
     let after = rows_after(area, table, r);
-    m + count_with_key(area, after, image, n, cs, ds)
+    m + count_with_key(area, after, key)
 }

@@ -1,113 +1,90 @@
--- Rows that are passed over do not pass the test; rows that are not alike have not the key.
+-- Rows that are passed over do not pass the test; rows without the words of a sought key have not the key.
 -- Assumes nothing.
 use mathlib.Core.Path.{_≡_, refl, sym, _∙_, ap}
-use mathlib.Core.Bool.{Bool, true, false, _&&_, _||_, false≢true, true≢false}
+use mathlib.Core.Bool.{Bool, true, false, not, _&&_, _||_, false≢true, true≢false}
 use mathlib.Core.List.{List, [], _∷_}
 use Prim.Native.Nat.{ℕ, zero, suc, _+_, _*_, _-_, _≤_, _<_}
 use native.Mathlib.Omega.{arith}
-use native.Mathlib.Nat.{zero-add, mul-le-mul-right}
-use borrow.Author.Tests.{le-leb, lt-leb, leb-true, leb-false}
+use native.Mathlib.Nat.{mul-le-mul-right}
+use native.Mathlib.Numerals.{add-one}
+use borrow.Author.Tests.{leb-true, leb-false}
 use lib.Dec.{leb}
 use lib.IntN.{ℤ}
 use lib.ListN.{length, getD, take, drop}
 use lib.Seq.{getD-take, getD-drop}
-use Rattle.schema.specs.Bounds.{Columns}
 use Rattle.schema.proofs.RangeLaws.{and-left, and-right}
-use Rattle.rules.specs.Lists.{𝟘, count, one}
+use Rattle.rules.specs.Lists.{𝟘}
 use Rattle.rules.specs.Values.{sameValue}
-use Rattle.rules.specs.Rows.{Row, live, valueAt}
-use Rattle.rules.specs.Keys.{sameCell, sameKey}
+use Rattle.rules.specs.Rows.{Row, live, nullAt, valueAt}
+use Rattle.rules.specs.Found.{cellIs, isFound}
+use Rattle.rules.specs.KeyValues.{holdsKey, hasKey}
 use Rattle.bridge.specs.Ready.{rowIn}
 use Rattle.bridge.proofs.Tests.{and-both}
+use Rattle.bridge.proofs.KeyLaws.{same-sym}
+use Rattle.rows.specs.declared.SoughtKey.{SoughtKey}
 use Rattle.rows.specs.declared.TableRows.{TableRows}
 use Rattle.rows.specs.Standing.{rowsIn}
-use Rattle.rows.proofs.LoopLaws.{count-more}
-use Rattle.rows.proofs.TableLaws.{rows-many, row-get}
-use Rattle.moves.proofs.Taken.{first, rest}
-use Rattle.skips.specs.declared.Sought.{Sought}
-use Rattle.skips.specs.WithKey.{withKey, withKeyAt}
-use Rattle.skips.specs.Skipped.{second, soughtOf, hasWord, alike, oneOfFour, Skipped}
+use Rattle.rows.specs.Sought.{soughtColumns, soughtValues, hasSought, SoughtIn}
+use Rattle.rows.proofs.TableLaws.{row-get}
+use Rattle.skips.specs.declared.TwoWords.{TwoWords}
+use Rattle.skips.specs.Skipped.{firstWords, hasWord, alike, oneOfFour, Skipped}
 
--- ---- the columns that are looked at
+-- ---- a row that has a sought key has its words
 
-pub second-two : (n : ℕ) → 2 ≤ n → 1 ≡ second n
-unfolding second
-second-two n h = sym (ap {B = ℕ} (λ t. elim t [ true ↦ 1 | false ↦ 0 ]) (le-leb 2 n h))
+value-word : (row : Row) (c : ℕ) (v : ℤ) → cellIs false v c row ≡ true → hasWord (suc c) v row ≡ true
+unfolding cellIs hasWord valueAt
+value-word row c v h =
+    same-sym (getD row (suc c) 𝟘) v ∙ and-right (not (nullAt row c)) (sameValue v (getD row (suc c) 𝟘)) h
 
-pub second-one : (n : ℕ) → n < 2 → 0 ≡ second n
-unfolding second
-second-one n h = sym (ap {B = ℕ} (λ t. elim t [ true ↦ 1 | false ↦ 0 ]) (lt-leb 2 n h))
+held-at : (row : Row) (n i : ℕ) (cs : List ℕ) (vs : List ℤ) → i < n → n ≤ length cs → n ≤ length vs → holdsKey (take n cs) (take n vs) row ≡ true → cellIs false (getD vs i 𝟘) (getD cs i 0) row ≡ true
+unfolding holdsKey
+held-at row zero i cs vs h l m e = absurd (omega arith)
+held-at row (suc n) i [] vs h l m e = absurd (omega arith)
+held-at row (suc n) i (c ∷ cs) [] h l m e = absurd (omega arith)
+held-at row (suc n) zero (c ∷ cs) (v ∷ vs) h l m e = and-left (cellIs false v c row) (holdsKey (take n cs) (take n vs) row) e
+held-at row (suc n) (suc i) (c ∷ cs) (v ∷ vs) h l m e =
+    held-at row n i cs vs (omega arith) (omega arith) (omega arith) (and-right (cellIs false v c row) (holdsKey (take n cs) (take n vs) row) e)
 
-pub second-below : (n : ℕ) → 1 ≤ n → second n < n
-second-below n h = by (leb 2 n) refl
-  where
-    by : (t : Bool) → leb 2 n ≡ t → second n < n
-    by true e = let l : 2 ≤ n = leb-true 2 n e in omega (arith, second-two n l, l)
-    by false e = let l : n < 2 = leb-false 2 n e in omega (arith, second-one n l, h)
+module _ (key : SoughtKey) (two : 2 ≤ key .n) {w : ℕ} (k : SoughtIn w key) where
+  word-at : (row : Row) (i : ℕ) → i < key .n → holdsKey (soughtColumns key) (soughtValues key) row ≡ true → hasWord (suc (getD (key .cs) i 0)) (getD (key .vs) i 𝟘) row ≡ true
+  word-at row i h e =
+      value-word row (getD (key .cs) i 0) (getD (key .vs) i 𝟘)
+      (held-at row (key .n) i (key .cs) (key .vs) h (omega (arith, k .columns .few, k .columns .size)) (omega (arith, k .columns .few, k .size)) e)
 
--- both are words of a row of w words
-pub sought-within : {w : ℕ} (n : ℕ) (cs ds : List ℕ) (image : Row) {s : Sought} → 1 ≤ n → Columns w n cs → s ≡ soughtOf n cs ds image → (s .c < w) × (s .d < w)
-unfolding soughtOf
-sought-within n cs ds image h k e = rw e (k .within 0 (omega (arith, h)), k .within (second n) (second-below n h))
-
--- ---- a row that has the key is alike
-
-cell-at : (x y : Row) (n i : ℕ) (cs ds : List ℕ) → i < n → n ≤ length cs → n ≤ length ds → sameKey (take n cs) (take n ds) x y ≡ true → sameCell x y (getD cs i 0) (getD ds i 0) ≡ true
-cell-at x y zero i cs ds h l m e = absurd (omega arith)
-cell-at x y (suc n) i [] ds h l m e = absurd (omega arith)
-cell-at x y (suc n) i (c ∷ cs) [] h l m e = absurd (omega arith)
-cell-at x y (suc n) zero (c ∷ cs) (d ∷ ds) h l m e = first x y c d (take n cs) (take n ds) e
-cell-at x y (suc n) (suc i) (c ∷ cs) (d ∷ ds) h l m e = cell-at x y n i cs ds (omega arith) (omega arith) (omega arith) (rest x y c d (take n cs) (take n ds) e)
-
-module _ (n : ℕ) (cs ds : List ℕ) (image : Row) (some : 1 ≤ n) (l : n ≤ length cs) (m : n ≤ length ds) where
-  value-at : (row : Row) (i : ℕ) → i < n → sameKey (take n cs) (take n ds) row image ≡ true → sameValue (getD row (suc (getD cs i 0)) 𝟘) (getD image (suc (getD ds i 0)) 𝟘) ≡ true
-  unfolding sameCell valueAt
-  value-at row i h e = and-left (sameValue (getD row (suc (getD cs i 0)) 𝟘) (getD image (suc (getD ds i 0)) 𝟘)) _ (cell-at row image n i cs ds h l m e)
-
-  alike-with : (row : Row) → withKey (take n cs) (take n ds) image row ≡ true → alike (soughtOf n cs ds image) row ≡ true
-  unfolding withKey alike hasWord soughtOf
+  alike-with : (row : Row) → hasSought key row ≡ true → alike (firstWords key) row ≡ true
+  unfolding hasSought hasKey alike firstWords
   alike-with row e =
-      let key : sameKey (take n cs) (take n ds) row image ≡ true = and-right (live row) _ e in
-      and-both (value-at row 0 (omega (arith, some)) key) (value-at row (second n) (second-below n some) key)
+      let held = and-right (live row) (holdsKey (soughtColumns key) (soughtValues key) row) e in
+      and-both (word-at row 0 (omega (arith, two)) held) (word-at row 1 (omega (arith, two)) held)
 
-  -- and one that is not alike has not the key
-  without : (row : Row) → alike (soughtOf n cs ds image) row ≡ false → withKey (take n cs) (take n ds) image row ≡ false
-  without row h = by (withKey (take n cs) (take n ds) image row) refl
-    where
-      by : (t : Bool) → withKey (take n cs) (take n ds) image row ≡ t → t ≡ false
-      by true e = absurd (false≢true (sym h ∙ alike-with row e))
-      by false e = refl
+  -- both are words of a row of w words
+  pub words-within : {s : TwoWords} → s ≡ firstWords key → (s .c < w) × (s .d < w)
+  unfolding firstWords
+  words-within e = rw e (k .columns .within 0 (omega (arith, two)), k .columns .within 1 (omega (arith, two)))
+
+-- ---- and one without them has not the key
+
+never : {a b : Bool} → (a ≡ true → b ≡ true) → b ≡ false → a ≡ false
+never {a = true} f e = absurd (false≢true (sym e ∙ f refl))
+never {a = false} f e = refl
+
+pub without : (key : SoughtKey) → 2 ≤ key .n → {w : ℕ} → SoughtIn w key → {s : TwoWords} → s ≡ firstWords key → (row : Row) → alike s row ≡ false → hasSought key row ≡ false
+without key two k e row h = never (alike-with key two k row) (ap (λ s. alike s row) (sym e) ∙ h)
+
+without-word : (c : ℕ) (v : ℤ) (row : Row) → hasWord (suc c) v row ≡ false → isFound c false v row ≡ false
+unfolding isFound
+without-word c v row h = never (λ e. value-word row c v (and-right (live row) (cellIs false v c row) e)) h
 
 -- ---- rows that are passed over
-module _ (p : Row → Bool) (xs : List Row) where
-  count-past : (k j : ℕ) → j + k ≤ length xs → ((i : ℕ) → j ≤ i → i < j + k → p (getD xs i []) ≡ false) → count p (drop j xs) ≡ count p (drop (j + k) xs)
-  unfolding one
-  count-past zero j l h = let all : j ≡ j + 0 = omega arith in ap (λ n. count p (drop n xs)) all
-  count-past (suc k) j l h =
-      let next : j + 1 + k ≡ j + suc k = omega arith in
-      let more = count-more p xs j (omega (arith, l)) [] (getD xs j []) refl in
-      more
-      ∙ ap (λ b. one b + count p (drop (j + 1) xs)) (h j (omega arith) (omega arith))
-      ∙ zero-add (count p (drop (j + 1) xs))
-      ∙ count-past k (j + 1) (omega (arith, l)) (λ i a b. h i (omega (arith, a)) (omega (arith, b)))
-      ∙ ap (λ n. count p (drop n xs)) next
 
-module _ (a : List ℤ) (t : TableRows) (n : ℕ) (cs ds : List ℕ) (image : Row) (some : 1 ≤ n) {w : ℕ} (k : Columns w n cs) (q : Columns 9 n ds) {s : Sought} (e : s ≡ soughtOf n cs ds image) {from x : ℕ} (h : Skipped (alike s) a t from x) where
-  abbrev P : Row → Bool
-  P = withKey (take n cs) (take n ds) image
+pub passed-by : {p q : Row → Bool} {a : List ℤ} {t : TableRows} {from x : ℕ} → ((row : Row) → q row ≡ false → p row ≡ false) → Skipped q a t from x → Skipped p a t from x
+passed-by f h = record { low = h .low; high = h .high; none = λ j l m. f _ (h .none j l m) }
 
-  pub passed : (j : ℕ) → from ≤ j → j < x → withKeyAt (take n cs) (take n ds) image (rowsIn a t) j ≡ false
-  unfolding withKeyAt
-  passed j l m =
-      without n cs ds image some (omega (arith, k .few, k .size)) (omega (arith, q .few, q .size)) (getD (rowsIn a t) j [])
-      (ap (λ s. alike s (getD (rowsIn a t) j [])) (sym e) ∙ h .none j l m)
+pub key-passed : {a : List ℤ} {t : TableRows} {from x : ℕ} (key : SoughtKey) → 2 ≤ key .n → {w : ℕ} → SoughtIn w key → {s : TwoWords} → s ≡ firstWords key → Skipped (alike s) a t from x → Skipped (hasSought key) a t from x
+key-passed key two k e = passed-by (without key two k e)
 
-  pub count-skipped : count (withKey (take n cs) (take n ds) image) (drop from (rowsIn a t)) ≡ count (withKey (take n cs) (take n ds) image) (drop x (rowsIn a t))
-  unfolding withKeyAt
-  count-skipped =
-      let whole : from + (x - from) ≡ x = omega (arith, h .low) in
-      count-past P (rowsIn a t) (x - from) from (omega (arith, whole, h .high, rows-many a t)) (λ j l m. passed j l (omega (arith, m, whole)))
-      ∙ ap (λ m. count P (drop m (rowsIn a t))) whole
+pub value-passed : {a : List ℤ} {t : TableRows} {from x : ℕ} (c : ℕ) (v : ℤ) → Skipped (hasWord (c + 1) v) a t from x → Skipped (isFound c false v) a t from x
+value-passed c v = passed-by (λ row h. without-word c v row (ap (λ m. hasWord m v row) (sym (add-one c)) ∙ h))
 
 -- the rows that four more rows take
 pub rows-fit : (j n w : ℕ) → 4 ≤ n - j → (j + 4) * w ≤ n * w
@@ -119,7 +96,7 @@ pub word-is : (a : List ℤ) (p w c : ℕ) (v : ℤ) → c < w → sameValue (ge
 unfolding hasWord rowIn
 word-is a p w c v h = ap (λ z. sameValue z v) (sym (getD-take w (drop p a) c 𝟘 h ∙ getD-drop p a c 𝟘))
 
-module _ (s : Sought) (row : Row) where
+module _ (s : TwoWords) (row : Row) where
   pub first-differs : hasWord (s .c) (s .v) row ≡ false → alike s row ≡ false
   unfolding alike
   first-differs e = rw e refl
@@ -190,26 +167,12 @@ module _ (p : Row → Bool) (a : List ℤ) (t : TableRows) (from : ℕ) where
       by i m n true g = four-fail j (omega (arith, l)) (none-of (passes j) (passes (j + 1)) (passes (j + 2)) (passes (j + 3)) e) i (leb-true j i g) n
       by i m n false g = h .none i m (leb-false j i g)
 
--- rows without the first word are not alike
-pub column-skipped : {a : List ℤ} {t : TableRows} {from x : ℕ} (s : Sought) → Skipped (hasWord (s .c) (s .v)) a t from x → Skipped (alike s) a t from x
-column-skipped s h = record { low = h .low; high = h .high; none = λ j l m. first-differs s _ (h .none j l m) }
-
 -- ---- what is read of the key's columns
 
-pub sought-bounds : {n i : ℕ} {cs ds : List ℕ} → (1 ≤ n) × (Columns 9 n cs × Columns 9 n ds) → i ≡ second n
-    → (suc (getD cs 0 0) < 9) × (suc (getD ds 0 0) < 9) × (suc (getD cs i 0) < 9) × (suc (getD ds i 0) < 9) × (i < 8) × (length cs ≡ 8) × (length ds ≡ 8)
-sought-bounds {n} {i} {cs} {ds} h e =
-    let some : 0 < n = omega (arith, h .0) in
-    let below : i < n = omega (arith, e, second-below n (h .0)) in
-    (h .1 .0 .within 0 some, h .1 .1 .within 0 some, h .1 .0 .within i below, h .1 .1 .within i below, omega (arith, below, h .1 .0 .few), h .1 .0 .size, h .1 .1 .size)
-
-pub sought-is : (n : ℕ) (cs ds : List ℕ) (image : Row) {c d i : ℕ} {v u : ℤ} → i ≡ second n → c ≡ getD cs 0 0 + 1 → v ≡ getD image (getD ds 0 0 + 1) 𝟘 → d ≡ getD cs i 0 + 1 → u ≡ getD image (getD ds i 0 + 1) 𝟘
-    → record { c = c; v = v; d = d; u = u } ≡ soughtOf n cs ds image
-unfolding soughtOf
-sought-is n cs ds image {c} {d} {i} {v} {u} e ec ev ed eu =
-    let next : (m : ℕ) → m + 1 ≡ suc m = λ m. omega arith in
-    let c-is : c ≡ suc (getD cs 0 0) = ec ∙ next (getD cs 0 0) in
-    let v-is : v ≡ getD image (suc (getD ds 0 0)) 𝟘 = ev ∙ ap (λ m. getD image m 𝟘) (next (getD ds 0 0)) in
-    let d-is : d ≡ suc (getD cs (second n) 0) = ed ∙ next (getD cs i 0) ∙ ap (λ m. suc (getD cs m 0)) e in
-    let u-is : u ≡ getD image (suc (getD ds (second n) 0)) 𝟘 = eu ∙ ap (λ m. getD image m 𝟘) (next (getD ds i 0)) ∙ ap (λ m. getD image (suc (getD ds m 0)) 𝟘) e in
-    λ k. record { c = c-is k; v = v-is k; d = d-is k; u = u-is k }
+pub words-are : (key : SoughtKey) {c d : ℕ} {v u : ℤ} → c ≡ getD (key .cs) 0 0 + 1 → v ≡ getD (key .vs) 0 𝟘 → d ≡ getD (key .cs) 1 0 + 1 → u ≡ getD (key .vs) 1 𝟘
+    → record { c = c; v = v; d = d; u = u } ≡ firstWords key
+unfolding firstWords
+words-are key {c} {d} {v} {u} ec ev ed eu =
+    let c-is : c ≡ suc (getD (key .cs) 0 0) = ec ∙ add-one (getD (key .cs) 0 0) in
+    let d-is : d ≡ suc (getD (key .cs) 1 0) = ed ∙ add-one (getD (key .cs) 1 0) in
+    λ k. record { c = c-is k; v = ev k; d = d-is k; u = eu k }

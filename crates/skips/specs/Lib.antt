@@ -1,2 +1,1 @@
-pub mod WithKey
 pub mod Skipped

@@ -1,40 +1,36 @@
 -- Rows passed over four at a time; those that cannot have a key, by two of its columns.
 -- Assumes nothing.
 use mathlib.Core.Path.{_≡_}
-use mathlib.Core.Bool.{Bool, true, false, _&&_, _||_}
+use mathlib.Core.Bool.{Bool, false, _&&_, _||_}
 use mathlib.Core.List.{List, []}
 use Prim.Native.Nat.{ℕ, suc, _+_, _*_, _≤_, _<_}
-use lib.Dec.{leb}
 use lib.IntN.{ℤ}
 use lib.ListN.{getD}
 use Rattle.rules.specs.Lists.{𝟘}
 use Rattle.rules.specs.Values.{sameValue}
 use Rattle.rules.specs.Rows.{Row}
 use Rattle.bridge.specs.Ready.{rowIn}
+use Rattle.rows.specs.declared.SoughtKey.{SoughtKey}
 use Rattle.rows.specs.declared.TableRows.{TableRows}
 use Rattle.rows.specs.Standing.{rowsIn}
-use Rattle.skips.specs.declared.Sought.{Sought}
+use Rattle.skips.specs.declared.TwoWords.{TwoWords}
 
--- the key column that is looked at beside the first: the second, or the first again
-unfoldable pub second : ℕ → ℕ
-second n = elim (leb 2 n) [ true ↦ 1 | false ↦ 0 ]
-
--- what a row must hold to have an image's key: the key's columns are cs in the row, ds in the image
-unfoldable pub soughtOf : ℕ → List ℕ → List ℕ → Row → Sought
-soughtOf n cs ds image =
+-- the words of a sought key's first two columns
+unfoldable pub firstWords : SoughtKey → TwoWords
+firstWords key =
     record {
-      c = suc (getD cs 0 0);
-      v = getD image (suc (getD ds 0 0)) 𝟘;
-      d = suc (getD cs (second n) 0);
-      u = getD image (suc (getD ds (second n) 0)) 𝟘;
+      c = suc (getD (key .cs) 0 0);
+      v = getD (key .vs) 0 𝟘;
+      d = suc (getD (key .cs) 1 0);
+      u = getD (key .vs) 1 𝟘;
     }
 
 -- word c of a row is v
 unfoldable pub hasWord : ℕ → ℤ → Row → Bool
 hasWord c v row = sameValue (getD row c 𝟘) v
 
--- a row that holds what is sought
-unfoldable pub alike : Sought → Row → Bool
+-- it has both words
+unfoldable pub alike : TwoWords → Row → Bool
 alike s row = hasWord (s .c) (s .v) row && hasWord (s .d) (s .u) row
 
 -- one of four rows from row j on passes a test

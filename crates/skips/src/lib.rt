@@ -2,41 +2,31 @@
 ghost use mathlib.Core.Path.{_≡_};
 ghost use Prim.Native.Nat.{_+_, _*_, _≤_, _<_};
 ghost use lib.ListN.{length};
-ghost use Rattle.schema.specs.Bounds.{Columns};
 ghost use Rattle.bridge.specs.Ready.{rowIn};
 ghost use Rattle.rows.specs.Standing.{Standing};
-ghost use Rattle.skips.specs.Skipped.{second, soughtOf, hasWord, alike, oneOfFour, Skipped};
+ghost use Rattle.rows.specs.Sought.{SoughtIn};
+ghost use Rattle.skips.specs.Skipped.{firstWords, hasWord, alike, oneOfFour, Skipped};
+use rows::SoughtKey;
 use rows::TableRows;
 
-// What a row must hold to have a key: word c is v, word d is u.
-pub struct Sought {
+// Two words that a row must have: word c is v, word d is u.
+pub struct TwoWords {
     pub c: usize,
     pub v: i64,
     pub d: usize,
     pub u: i64,
 }
 
-// The number of the key column that is looked at beside the first.
-fn second_column(n: usize) -> usize
-    ensures { λ x. ⌜ x ≡ second n ⌝ }
+// The words of a sought key's first two columns.
+pub fn first_words(key: SoughtKey) -> TwoWords
+    requires { ⌜ (2 ≤ key .n) × SoughtIn 9 key ⌝ }
+    ensures { λ x. ⌜ x ≡ firstWords key ⌝ }
 {
-    if 2 <= n {
-        return 1;
-    }
-    0
-}
-
-// What a row must hold to have an image's key.
-pub fn sought_of(image: &[i64; 9], n: usize, cs: &[usize; 8], ds: &[usize; 8]) -> Sought
-    requires { ⌜ (1 ≤ n) × (Columns 9 n (now cs) × Columns 9 n (now ds)) ⌝ }
-    ensures { λ x. ⌜ x ≡ soughtOf n (now (cs .entry)) (now (ds .entry)) (now (image .entry)) ⌝ }
-{
-    let i = second_column(n);
-    let c = cs[0] + 1;
-    let v = image[ds[0] + 1];
-    let d = cs[i] + 1;
-    let u = image[ds[i] + 1];
-    Sought {
+    let c = key.cs[0] + 1;
+    let v = key.vs[0];
+    let d = key.cs[1] + 1;
+    let u = key.vs[1];
+    TwoWords {
         c: c,
         v: v,
         d: d,
@@ -52,46 +42,46 @@ fn has_word(area: &[i64], p: usize, w: usize, c: usize, v: i64) -> bool
     words::same_word(area[p + c], v)
 }
 
-// Whether the row at p holds what is sought.
-fn is_alike(area: &[i64], p: usize, w: usize, sought: Sought) -> bool
-    requires { ⌜ (p + w ≤ length (now area)) × ((sought .c < w) × (sought .d < w)) ⌝ }
-    ensures { λ x. ⌜ x ≡ alike sought (rowIn (now (area .entry)) p w) ⌝ }
+// Whether the row at p holds what is pair.
+pub fn is_alike(area: &[i64], p: usize, w: usize, pair: TwoWords) -> bool
+    requires { ⌜ (p + w ≤ length (now area)) × ((pair .c < w) × (pair .d < w)) ⌝ }
+    ensures { λ x. ⌜ x ≡ alike pair (rowIn (now (area .entry)) p w) ⌝ }
 {
-    if !has_word(area, p, w, sought.c, sought.v) {
+    if !has_word(area, p, w, pair.c, pair.v) {
         return false;
     }
-    has_word(area, p, w, sought.d, sought.u)
+    has_word(area, p, w, pair.d, pair.u)
 }
 
-// Whether one of four rows from row j on holds what is sought.
-fn four_alike(area: &[i64], start: usize, w: usize, sought: Sought, j: usize) -> bool
-    requires { ⌜ (start + (j + 4) * w ≤ length (now area)) × ((sought .c < w) × (sought .d < w)) ⌝ }
-    ensures { λ x. ⌜ x ≡ oneOfFour (alike sought) (now (area .entry)) start w j ⌝ }
+// Whether one of four rows from row j on holds what is pair.
+fn four_alike(area: &[i64], start: usize, w: usize, pair: TwoWords, j: usize) -> bool
+    requires { ⌜ (start + (j + 4) * w ≤ length (now area)) × ((pair .c < w) × (pair .d < w)) ⌝ }
+    ensures { λ x. ⌜ x ≡ oneOfFour (alike pair) (now (area .entry)) start w j ⌝ }
 {
     let p = start + j * w;
-    if is_alike(area, p, w, sought) {
+    if is_alike(area, p, w, pair) {
         return true;
     }
-    if is_alike(area, p + w, w, sought) {
+    if is_alike(area, p + w, w, pair) {
         return true;
     }
-    if is_alike(area, p + w + w, w, sought) {
+    if is_alike(area, p + w + w, w, pair) {
         return true;
     }
-    is_alike(area, p + w + w + w, w, sought)
+    is_alike(area, p + w + w + w, w, pair)
 }
 
-// A row from row `from` on, below which none holds what is sought, four rows at a time.
-pub fn skip_rows(area: &[i64], table: TableRows, sought: Sought, from: usize) -> usize
-    requires { ⌜ Standing (now area) table × ((from ≤ table .count) × ((sought .c < table .width) × (sought .d < table .width))) ⌝ }
-    ensures { λ x. ⌜ Skipped (alike sought) (now (area .entry)) table from x ⌝ }
+// A row from row `from` on, below which none has both words, four rows at a time.
+pub fn skip_rows(area: &[i64], table: TableRows, pair: TwoWords, from: usize) -> usize
+    requires { ⌜ Standing (now area) table × ((from ≤ table .count) × ((pair .c < table .width) × (pair .d < table .width))) ⌝ }
+    ensures { λ x. ⌜ Skipped (alike pair) (now (area .entry)) table from x ⌝ }
 {
     let start = table.start;
     let w = table.width;
     let rows = table.count;
     let mut j = from;
     while 4 <= rows - j {
-        if four_alike(area, start, w, sought, j) {
+        if four_alike(area, start, w, pair, j) {
             return j;
         }
         j += 4;
@@ -99,7 +89,7 @@ pub fn skip_rows(area: &[i64], table: TableRows, sought: Sought, from: usize) ->
     j
 }
 
-// ---- keys of one column
+// ---- one column
 
 // Whether word c is v in one of four rows from row j on.
 fn four_equal(area: &[i64], start: usize, w: usize, c: usize, v: i64, j: usize) -> bool
@@ -114,17 +104,17 @@ fn four_equal(area: &[i64], start: usize, w: usize, c: usize, v: i64, j: usize) 
     first | (second | (third | fourth))
 }
 
-// The same as `skip_rows`, by the first word alone: for a key of one column, whose second word is the first again.
-pub fn skip_column(area: &[i64], table: TableRows, sought: Sought, from: usize) -> usize
-    requires { ⌜ Standing (now area) table × ((from ≤ table .count) × (sought .c < table .width)) ⌝ }
-    ensures { λ x. ⌜ Skipped (alike sought) (now (area .entry)) table from x ⌝ }
+// A row from row `from` on, below which none has the word, four rows at a time.
+pub fn skip_column(area: &[i64], table: TableRows, c: usize, v: i64, from: usize) -> usize
+    requires { ⌜ Standing (now area) table × ((from ≤ table .count) × (c < table .width)) ⌝ }
+    ensures { λ x. ⌜ Skipped (hasWord c v) (now (area .entry)) table from x ⌝ }
 {
     let start = table.start;
     let w = table.width;
     let rows = table.count;
     let mut i = from;
     while 4 <= rows - i {
-        if four_equal(area, start, w, sought.c, sought.v, i) {
+        if four_equal(area, start, w, c, v, i) {
             return i;
         }
         i += 4;

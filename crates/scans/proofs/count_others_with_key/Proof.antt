@@ -2,8 +2,7 @@ use mathlib.Core.Path.{_∙_, ap₂}
 use Prim.Native.Nat.{_+_}
 use native.Mathlib.Omega.{arith}
 use borrow.Author.Needs.{needs}
-use lib.ListN.{take}
-use Rattle.skips.specs.WithKey.{withKey}
+use Rattle.rows.specs.Sought.{hasSought}
 use Rattle.scans.proofs.ScanLaws.{before-ready, after-ready, count-parts, parts-few}
 use Rattle.scans.proofs.count_others_with_key.Statement.{statement}
 use Rattle.scans.proofs.count_others_with_key.Tie as tie
@@ -39,7 +38,7 @@ returns c =
     let rows-after = c .before .rows-after in
     let s = c .before .before .before .before in
     let a = s .args in
-    let P = withKey (take (a .n) (a .cs .now)) (take (a .n) (a .ds .now)) (a .image .now) in
+    let P = hasSought (a .key) in
     let before = count-with-key .ensures in
     let after = c .count-with-key2 .ensures in
     let all = count-parts (a .area .now) (a .table) (a .r) (s .pre .0 .1) P (rows-before .ensures) (rows-after .ensures) in

@@ -1,33 +1,50 @@
-use mathlib.Core.Path.{sym, subst}
-use Prim.Native.Nat.{ℕ}
-use lib.ListN.{take}
-use Rattle.schema.specs.Bounds.{Columns}
-use Rattle.rows.specs.Standing.{rowsIn}
-use Rattle.skips.specs.WithKey.{withKeyAt}
-use Rattle.scans.specs.FirstFrom.{FirstFrom}
+use mathlib.Core.Path.{_∙_, ap}
+use mathlib.Core.Bool.{false}
+use native.Mathlib.Omega.{arith}
+use lib.IntN.{ℤ}
+use lib.ListN.{getD}
+use Rattle.words.proofs.Signed.{back}
+use Rattle.rules.specs.Lists.{𝟘}
+use Rattle.rules.specs.Found.{isFound}
+use Rattle.scans.proofs.FirstLaws.{first-same, one-value}
 use borrow.Author.Needs.{needs}
 use Rattle.scans.proofs.first_with_key.Statement.{statement}
 use Rattle.scans.proofs.first_with_key.Tie as tie
 
-first-in-column-requires : tie.Need-first-in-column-requires
-first-in-column-requires c κs =
-    let s = c .before in
-    let a = s .args in
-    let one = c .if1 .taken in
-    (s .pre .0, (subst (λ (n : ℕ). Columns (a .table .width) n (a .cs .now)) one (s .pre .1 .1 .0), subst (λ (n : ℕ). Columns 9 n (a .ds .now)) one (s .pre .1 .1 .1)))
+element-copy-out-first-with-value : tie.Need-element-copy-out-first-with-value
+element-copy-out-first-with-value c = search needs
+
+element-copy-out-first-with-value-2 : tie.Need-element-copy-out-first-with-value-2
+element-copy-out-first-with-value-2 c = search needs
+
+first-with-value-requires : tie.Need-first-with-value-requires
+first-with-value-requires c κs =
+    let s = c .before .before .before in
+    (s .pre .0, s .pre .1 .1 .columns .within 0 (omega (arith, s .pre .1 .0)))
 
 returns : tie.Need-returns
 returns c =
-    let a = c .before .before .args in
-    subst
-    (λ (n : ℕ). FirstFrom (withKeyAt (take n (a .cs .now)) (take n (a .ds .now)) (a .image .now) (rowsIn (a .area .now) (a .table))) (a .table .count) (a .from) (c .first-in-column .result))
-    (sym (c .before .if1 .taken)) (c .first-in-column .ensures)
+    let s = c .before .before .before .before in
+    let key = s .args .t3 in
+    let v = back (getD (key .vs) 0 𝟘) (c .before .first-with-value-arg2 .given) in
+    first-same (s .args .area .now) (s .args .table)
+    (λ row. ap (λ (z : ℤ). isFound (getD (key .cs) 0 0) false z row) v ∙ one-value key (s .pre .1 .1) (c .before .before .before .if1 .taken) row) (c .first-with-value .ensures)
 
-first-in-columns-requires : tie.Need-first-in-columns-requires
-first-in-columns-requires c κs = search needs
+first-with-composite-requires : tie.Need-first-with-composite-requires
+first-with-composite-requires c κs =
+    let s = c .before in
+    (s .pre .0, (omega (arith, s .pre .1 .0, c .if1 .left), s .pre .1 .1))
 
 returns-2 : tie.Need-returns-2
-returns-2 c = search needs
+returns-2 c = c .first-with-composite .ensures
 
 pub first-with-key-spec : {M : Type 1} → statement M
-first-with-key-spec = tie.close (tie.spec first-in-column-requires returns first-in-columns-requires returns-2)
+first-with-key-spec =
+    tie.close
+    (tie.spec
+    element-copy-out-first-with-value
+    element-copy-out-first-with-value-2
+    first-with-value-requires
+    returns
+    first-with-composite-requires
+    returns-2)

@@ -1,7 +1,6 @@
 use mathlib.Core.Path.{sym, _∙_}
 use borrow.Author.Needs.{needs}
-use lib.ListN.{take}
-use Rattle.skips.specs.WithKey.{withKey}
+use Rattle.rows.specs.Sought.{hasSought}
 use Rattle.scans.proofs.ScanLaws.{before-ready, after-ready, any-before, any-after}
 use Rattle.scans.proofs.other_with_key.Statement.{statement}
 use Rattle.scans.proofs.other_with_key.Tie as tie
@@ -18,7 +17,7 @@ returns : tie.Need-returns
 returns c =
     let s = c .before .before .before in
     let a = s .args in
-    let P = withKey (take (a .n) (a .cs .now)) (take (a .n) (a .ds .now)) (a .image .now) in
+    let P = hasSought (a .key) in
     let hit = sym (c .before .any-with-key .ensures) ∙ c .if1 .taken in
     sym (any-before (a .area .now) (a .table) (a .r) (s .pre .0 .1) P (c .before .before .rows-before .ensures) hit)
 
@@ -34,7 +33,7 @@ returns-2 : tie.Need-returns-2
 returns-2 c =
     let s = c .before .before .before .before .before in
     let a = s .args in
-    let P = withKey (take (a .n) (a .cs .now)) (take (a .n) (a .ds .now)) (a .image .now) in
+    let P = hasSought (a .key) in
     let miss = sym (c .before .before .before .any-with-key .ensures) ∙ c .before .before .if1 .left in
     c .any-with-key2 .ensures ∙ any-after (a .area .now) (a .table) (a .r) (s .pre .0 .1) P (c .before .before .before .before .rows-before .ensures) (c .before .rows-after .ensures) miss
 

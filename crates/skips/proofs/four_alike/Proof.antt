@@ -17,7 +17,7 @@ is-alike-requires c κs = search needs
 returns : tie.Need-returns
 returns c =
     let a = c .before .before .args in
-    four-first (alike (a .sought)) (a .area .now) (a .start) (a .w) (a .j) (sym (c .before .is-alike .ensures) ∙ c .if1 .taken)
+    four-first (alike (a .pair)) (a .area .now) (a .start) (a .w) (a .j) (sym (c .before .is-alike .ensures) ∙ c .if1 .taken)
 
 add-is-alike : tie.Need-add-is-alike
 add-is-alike c = search needs
@@ -31,7 +31,7 @@ returns-2 c =
     let if1 = c .before .before .if1 in
     let is-alike2 = c .before .is-alike2 in
     let a = c .before .before .before .before .args in
-    four-second (alike (a .sought)) (a .area .now) (a .start) (a .w) (a .j) (sym (is-alike .ensures) ∙ if1 .left) (sym (is-alike2 .ensures) ∙ c .if2 .taken)
+    four-second (alike (a .pair)) (a .area .now) (a .start) (a .w) (a .j) (sym (is-alike .ensures) ∙ if1 .left) (sym (is-alike2 .ensures) ∙ c .if2 .taken)
 
 add-is-alike-2 : tie.Need-add-is-alike-2
 add-is-alike-2 c = search needs
@@ -50,7 +50,7 @@ returns-3 c =
     let if2 = c .before .before .if2 in
     let is-alike3 = c .before .is-alike3 in
     let a = c .before .before .before .before .before .before .args in
-    four-third (alike (a .sought)) (a .area .now) (a .start) (a .w) (a .j) (sym (is-alike .ensures) ∙ if1 .left) (sym (is-alike2 .ensures) ∙ if2 .left) (sym (is-alike3 .ensures) ∙ c .if3 .taken)
+    four-third (alike (a .pair)) (a .area .now) (a .start) (a .w) (a .j) (sym (is-alike .ensures) ∙ if1 .left) (sym (is-alike2 .ensures) ∙ if2 .left) (sym (is-alike3 .ensures) ∙ c .if3 .taken)
 
 add-is-alike-4 : tie.Need-add-is-alike-4
 add-is-alike-4 c = search needs
@@ -73,7 +73,7 @@ returns-4 c =
     let is-alike3 = c .before .before .is-alike3 in
     let if3 = c .before .if3 in
     let a = c .before .before .before .before .before .before .before .args in
-    c .is-alike4 .ensures ∙ four-last (alike (a .sought)) (a .area .now) (a .start) (a .w) (a .j) (sym (is-alike .ensures) ∙ if1 .left) (sym (is-alike2 .ensures) ∙ if2 .left) (sym (is-alike3 .ensures) ∙ if3 .left)
+    c .is-alike4 .ensures ∙ four-last (alike (a .pair)) (a .area .now) (a .start) (a .w) (a .j) (sym (is-alike .ensures) ∙ if1 .left) (sym (is-alike2 .ensures) ∙ if2 .left) (sym (is-alike3 .ensures) ∙ if3 .left)
 
 pub four-alike-spec : {M : Type 1} → statement M
 four-alike-spec =

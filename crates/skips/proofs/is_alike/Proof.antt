@@ -20,9 +20,9 @@ returns c =
     let s = c .before .before .before in
     let a = s .args in
     let row : Row = rowIn (a .area .now) (a .p) (a .w) in
-    let v : SFits w64 (a .sought .v) = search needs in
-    let first = c .before .has-word .ensures ∙ ap (λ (z : ℤ). hasWord (a .sought .c) z row) (toZ-ofZ w64 (a .sought .v) v) in
-    sym (first-differs (a .sought) row (sym first ∙ not-true _ (c .if1 .taken)))
+    let v : SFits w64 (a .pair .v) = search needs in
+    let first = c .before .has-word .ensures ∙ ap (λ (z : ℤ). hasWord (a .pair .c) z row) (toZ-ofZ w64 (a .pair .v) v) in
+    sym (first-differs (a .pair) row (sym first ∙ not-true _ (c .if1 .taken)))
 
 has-word-requires-2 : tie.Need-has-word-requires-2
 has-word-requires-2 c κs = search needs
@@ -32,11 +32,11 @@ returns-2 c =
     let s = c .before .before .before .before .before in
     let a = s .args in
     let row : Row = rowIn (a .area .now) (a .p) (a .w) in
-    let v : SFits w64 (a .sought .v) = search needs in
-    let u : SFits w64 (a .sought .u) = search needs in
-    let first = c .before .before .before .has-word .ensures ∙ ap (λ (z : ℤ). hasWord (a .sought .c) z row) (toZ-ofZ w64 (a .sought .v) v) in
-    let second = c .has-word2 .ensures ∙ ap (λ (z : ℤ). hasWord (a .sought .d) z row) (toZ-ofZ w64 (a .sought .u) u) in
-    second ∙ second-decides (a .sought) row (sym first ∙ not-false _ (c .before .before .if1 .left))
+    let v : SFits w64 (a .pair .v) = search needs in
+    let u : SFits w64 (a .pair .u) = search needs in
+    let first = c .before .before .before .has-word .ensures ∙ ap (λ (z : ℤ). hasWord (a .pair .c) z row) (toZ-ofZ w64 (a .pair .v) v) in
+    let second = c .has-word2 .ensures ∙ ap (λ (z : ℤ). hasWord (a .pair .d) z row) (toZ-ofZ w64 (a .pair .u) u) in
+    second ∙ second-decides (a .pair) row (sym first ∙ not-false _ (c .before .before .if1 .left))
 
 pub is-alike-spec : {M : Type 1} → statement M
 is-alike-spec = tie.close (tie.spec has-word-requires returns has-word-requires-2 returns-2)
