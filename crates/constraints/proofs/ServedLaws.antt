@@ -15,7 +15,7 @@ use Rattle.rules.specs.Rows.{Row, live}
 use Rattle.rules.specs.Keys.{fullKey, mapsTo, due, serves, orphan}
 use Rattle.bridge.proofs.KeyLaws.{key-sym}
 use Rattle.rows.specs.KeyColumns.{KeyColumns}
-use Rattle.skips.specs.WithKey.{withKey}
+use Rattle.rows.specs.Sought.{withKey}
 
 -- a foreign key has a column
 pub some-columns : (b : List ℕ) (k n : ℕ) (cs ps : List ℕ) → KeyColumns b k n cs ps → 1 ≤ n

@@ -18,7 +18,7 @@ use Rattle.rules.specs.Keys.{sameKey, maskColumns, maskColumnsFrom}
 use Rattle.rules.specs.Change.{twice}
 use Rattle.rows.proofs.LoopLaws.{up-length, up-get}
 use Rattle.moves.specs.Movement.{except}
-use Rattle.skips.specs.WithKey.{withKey}
+use Rattle.rows.specs.Sought.{withKey}
 
 -- ---- a mask that is not 0 has a column
 

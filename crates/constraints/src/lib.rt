@@ -1,8 +1,9 @@
 // Constraints: unique keys, and whether a child row has its parent row.
 ghost use mathlib.Core.Path.{_≡_};
+ghost use mathlib.Core.Bool.{true};
 ghost use mathlib.Core.List.{[]};
 ghost use Prim.Native.Nat.{_<_};
-ghost use lib.ListN.{getD};
+ghost use lib.ListN.{getD, take};
 ghost use Rattle.schema.specs.Records.{tableOf, keyOf};
 ghost use Rattle.schema.specs.Fields.{schemaOf};
 ghost use Rattle.rules.specs.Lists;
@@ -29,7 +30,8 @@ fn mask_broken(area: &[i64], table: TableRows, r: usize, image: [i64; 9], m: usi
     if !rows::image_full_key(image, n, cs) {
         return false;
     }
-    scans::other_with_key(area, table, r, &image, n, &cs, &cs)
+    let key = rows::sought_key(image, n, cs, cs);
+    scans::other_with_key(area, table, r, key)
 }
 
 // Whether an image for row r breaks a unique key of table t.
@@ -51,7 +53,7 @@ pub fn unique_broken(schema: &[u8], area: &[i64], t: usize, r: usize, image: [i6
 
 // ---- foreign keys
 
-// Whether one of foreign key k's parent rows serves a child row's image.
+// Whether one of foreign key k's parent rows serves a child row's image, which has no NULL in its key.
 fn is_served(
     schema: &[u8],
     area: &[i64],
@@ -62,10 +64,11 @@ fn is_served(
     cs: [usize; 8],
     ps: [usize; 8],
 ) -> bool
-    requires { ⌜ Ready (now schema) (now area) × (KeyColumns (now schema) k n cs ps × RowsOf (now schema) (keyOf (schemaOf (now schema)) k .parent) parents) ⌝ }
+    requires { ⌜ (Ready (now schema) (now area) × (Keys.fullKey (take n cs) image ≡ true)) × (KeyColumns (now schema) k n cs ps × RowsOf (now schema) (keyOf (schemaOf (now schema)) k .parent) parents) ⌝ }
     ensures { λ x. ⌜ x ≡ Lists.any (Keys.serves (keyOf (schemaOf (now (schema .entry))) k) image) (getD (workOf (schemaOf (now (schema .entry))) (now (area .entry)) .tabs) (keyOf (schemaOf (now (schema .entry))) k .parent) []) ⌝ }
 {
-    scans::any_with_key(area, parents, &image, n, &ps, &cs)
+    let key = rows::sought_key(image, n, ps, cs);
+    scans::any_with_key(area, parents, key)
 }
 
 // Whether the image of a child row of foreign key k, of which the parent rows and the columns are given, is that of an orphan.

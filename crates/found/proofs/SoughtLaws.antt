@@ -1,41 +1,35 @@
 -- Rows that are found, by what the scans look for.
 -- Assumes nothing.
-use mathlib.Core.Path.{_≡_, refl, sym, _∙_, ap}
-use mathlib.Core.Bool.{Bool, true, false, not, _&&_}
+use mathlib.Core.Path.{_≡_, refl, sym, _∙_, ap, ap₂}
+use mathlib.Core.Bool.{Bool, true, false, _&&_}
 use mathlib.Core.List.{List, [], _∷_}
-use Prim.Native.Nat.{ℕ, zero, suc, _+_, _*_, _≤_, _<_}
+use Prim.Native.Nat.{ℕ, zero, suc, _<_}
 use native.Mathlib.Omega.{arith}
 use borrow.Author.Tests.{ltb-true}
-use lib.IntN.{ℤ, pos}
-use lib.ListN.{length, getD, take, replicate}
-use Rattle.schema.specs.Bounds.{Columns}
+use lib.IntN.{ℤ}
+use lib.ListN.{length, getD, replicate}
 use Rattle.schema.specs.Bytes.{bit}
 use Rattle.schema.specs.Records.{tableOf}
 use Rattle.schema.specs.Fields.{schemaOf}
 use Rattle.rules.specs.Lists.{𝟘}
-use Rattle.rules.specs.Values.{sameValue, natOf}
-use Rattle.rules.specs.Rows.{Row, rowAt, deletedImage, live, nullAt, valueAt}
-use Rattle.rules.specs.Keys.{sameCell, sameKey}
+use Rattle.rules.specs.Values.{natOf}
+use Rattle.rules.specs.Rows.{Row, rowAt, deletedImage, live, nullAt}
 use Rattle.rules.specs.Found.{cellIs, isFound, rowSet}
 use Rattle.bridge.specs.Fit.{workOf}
 use Rattle.bridge.specs.Ready.{Ready, rowIn}
-use Rattle.bridge.proofs.KeyLaws.{same-sym, and-comm}
+use Rattle.bridge.proofs.KeyLaws.{and-comm}
 use Rattle.rows.specs.declared.TableRows.{TableRows}
+use Rattle.rows.specs.Sought.{SoughtIn}
 use Rattle.rows.specs.Standing.{rowsIn, RowsOf}
 use Rattle.rows.proofs.CellLaws.{null-in}
-use Rattle.rows.proofs.TableLaws.{rows-are, row-get}
+use Rattle.rows.proofs.TableLaws.{rows-are}
 use Rattle.skips.specs.Skipped.{Skipped}
-use Rattle.skips.specs.WithKey.{withKey, withKeyAt}
-use Rattle.scans.specs.FirstFrom.{FirstFrom}
+use Rattle.skips.proofs.SkipLaws.{passed-by}
+use Rattle.scans.specs.FirstFrom.{FirstFrom, FirstRow}
 use Rattle.found.specs.declared.Cell.{Cell}
 use Rattle.found.specs.declared.Given.{Given}
 use Rattle.found.specs.declared.Given.the-variants.{Deleted, Set}
-use Rattle.found.specs.Sought.{foundRow, foundIn, foundAt, nullIn, givenImage, setsIn}
-
--- what a test of row j in the words comes to
-pub found-tested : (a : List ℤ) (t : TableRows) (sought : Cell) (j : ℕ) → j < t .count → {b b′ : Bool} → b ≡ foundRow sought (rowIn a (t .start + j * t .width) (t .width)) → b ≡ b′ → foundIn sought (rowsIn a t) j ≡ b′
-unfolding foundIn
-found-tested a t sought j h e f = sym (e ∙ ap (foundRow sought) (row-get a t j h)) ∙ f
+use Rattle.found.specs.Sought.{foundRow, foundAt, nullIn, givenImage, setsIn}
 
 -- ---- NULL is sought
 
@@ -55,58 +49,29 @@ module _ (sought : Cell) (null : sought .null ≡ true) where
   null-decides row e f = f ∙ ap (λ b. b && live row) (sym e) ∙ null-found row
 
   -- rows that are passed over are not found
-  pub filled-passed : {a : List ℤ} {t : TableRows} {from x : ℕ} → Skipped (nullIn (sought .column)) a t from x → (j : ℕ) → from ≤ j → j < x → foundIn sought (rowsIn a t) j ≡ false
-  unfolding foundIn
-  filled-passed {a} {t} h j l m = filled-not-found (getD (rowsIn a t) j []) (h .none j l m)
+  pub filled-passed : {a : List ℤ} {t : TableRows} {from x : ℕ} → Skipped (nullIn (sought .column)) a t from x → Skipped (foundRow sought) a t from x
+  filled-passed = passed-by filled-not-found
 
 -- ---- a value is sought
 
--- the image that has the value alone
-abbrev pub valueImage : ℤ → Row
-valueImage v = pos 256 ∷ v ∷ replicate 7 𝟘
-
--- one column
-pub one-column : (w c : ℕ) {cs : List ℕ} → cs ≡ c ∷ replicate 7 0 → suc c < w → Columns w 1 cs
-one-column w c {cs} e l = rw e (record { few = omega arith; size = refl; within = at })
+-- a key of one column
+pub one-column : (w c : ℕ) (v : ℤ) → suc c < w → SoughtIn w (record { n = 1; cs = c ∷ replicate 7 0; vs = v ∷ replicate 7 𝟘 })
+one-column w c v l = record { columns = record { few = omega arith; size = refl; within = at }; size = refl }
   where
     at : (i : ℕ) → i < 1 → suc (getD (c ∷ replicate 7 0) i 0) < w
     at zero h = l
     at (suc i) h = absurd (omega arith)
 
-module _ (sought : Cell) (value : sought .null ≡ false) where
-  kept-test : (p n : Bool) → elim (p && (n && true)) [ true ↦ true | false ↦ false ] ≡ n && p
-  kept-test true true = refl
-  kept-test true false = refl
-  kept-test false true = refl
-  kept-test false false = refl
-
-  value-found : (row : Row) → withKey (sought .column ∷ []) (0 ∷ []) (valueImage (sought .value)) row ≡ foundRow sought row
-  unfolding withKey sameKey sameCell nullAt valueAt foundRow isFound cellIs bit natOf
-  value-found row =
-      let c : ℕ = sought .column in
-      let v : ℤ = sought .value in
-      let filled : Bool = not (bit c (natOf (getD row 0 𝟘))) in
-      ap (λ t. live row && t) (kept-test (sameValue (getD row (suc c) 𝟘) v) filled ∙ ap (λ t. filled && t) (same-sym (getD row (suc c) 𝟘) v))
-      ∙ ap (λ n. isFound c n v row) (sym value)
-
-  pub first-value : (rows : List Row) (cs ds : List ℕ) {image : Row} {n from x : ℕ} → take 1 cs ≡ sought .column ∷ [] → take 1 ds ≡ 0 ∷ [] → image ≡ valueImage (sought .value)
-      → FirstFrom (withKeyAt (take 1 cs) (take 1 ds) image rows) n from x → FirstFrom (foundIn sought rows) n from x
-  unfolding withKeyAt foundIn
-  first-value rows cs ds {image} {n} {from} {x} e f g h =
-      let k : FirstFrom (λ j. withKey (sought .column ∷ []) (0 ∷ []) (valueImage (sought .value)) (getD rows j [])) n from x = rw (e, f, g) at h in
-      record {
-        low = k .low;
-        high = k .high;
-        skipped = λ i l m. sym (value-found (getD rows i [])) ∙ k .skipped i l m;
-        found = λ l. sym (value-found (getD rows x [])) ∙ k .found l;
-      }
+pub value-found : (sought : Cell) {v : ℤ} → sought .null ≡ false → v ≡ sought .value → (row : Row) → isFound (sought .column) false v row ≡ foundRow sought row
+unfolding foundRow
+value-found sought e f row = ap₂ (λ n z. isFound (sought .column) n z row) (sym e) f
 
 -- ---- the rows of a table
-pub found-in-table : (b : List ℕ) (a : List ℤ) (t : ℕ) (x : TableRows) → Ready b a → t < length (schemaOf b .tables) → RowsOf b t x → (sought : Cell) {from i : ℕ} → FirstFrom (foundIn sought (rowsIn a x)) (x .count) from i
+pub found-in-table : (b : List ℕ) (a : List ℤ) (t : ℕ) (x : TableRows) → Ready b a → t < length (schemaOf b .tables) → RowsOf b t x → (sought : Cell) {from i : ℕ} → FirstRow (foundRow sought) a x from i
     → FirstFrom (foundAt t sought (workOf (schemaOf b) a .tabs)) (tableOf (schemaOf b) t .rows) from i
-unfolding foundIn foundAt rowAt
+unfolding foundAt rowAt
 found-in-table b a t x r lt o sought {from} {i} h =
-    let eq : (j : ℕ) → foundAt t sought (workOf (schemaOf b) a .tabs) j ≡ foundIn sought (rowsIn a x) j =
+    let eq : (j : ℕ) → foundAt t sought (workOf (schemaOf b) a .tabs) j ≡ foundRow sought (getD (rowsIn a x) j []) =
     λ j. sym (ap (λ (l : List Row). foundRow sought (getD l j [])) (rows-are b a r t lt x o)) in
     record {
       low = h .low;

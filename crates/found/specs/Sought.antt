@@ -2,10 +2,9 @@
 -- Assumes nothing.
 use mathlib.Core.Path.{_≡_}
 use mathlib.Core.Bool.{Bool, true}
-use mathlib.Core.List.{List, []}
 use Prim.Native.Nat.{ℕ, _<_}
 use lib.Dec.{ltb}
-use lib.ListN.{length, getD}
+use lib.ListN.{length}
 use Rattle.schema.specs.Records.{Schema, tableOf}
 use Rattle.rules.specs.Rows.{Row, Tables, rowAt, deletedImage, nullAt}
 use Rattle.rules.specs.Book.{Work}
@@ -18,10 +17,6 @@ use Rattle.found.specs.declared.Given.the-variants.{Deleted, Set}
 -- a row that is found
 unfoldable pub foundRow : Cell → Row → Bool
 foundRow sought = isFound (sought .column) (sought .null) (sought .value)
-
--- row j is one
-unfoldable pub foundIn : Cell → List Row → ℕ → Bool
-foundIn sought rows j = foundRow sought (getD rows j [])
 
 -- row j of table t is one
 unfoldable pub foundAt : ℕ → Cell → Tables → ℕ → Bool

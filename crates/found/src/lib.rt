@@ -8,10 +8,11 @@ ghost use Rattle.schema.specs.Fields.{schemaOf};
 ghost use Rattle.rules.specs.Rows;
 ghost use Rattle.bridge.specs.Fit.{workOf};
 ghost use Rattle.bridge.specs.Ready.{Ready, Placed, rowIn};
-ghost use Rattle.rows.specs.Standing.{RowAt, Standing, rowsIn};
+ghost use Rattle.rows.specs.Standing.{RowAt, Standing};
 ghost use Rattle.skips.specs.Skipped.{oneOfFour, Skipped};
-ghost use Rattle.scans.specs.FirstFrom.{FirstFrom};
-ghost use Rattle.found.specs.Sought.{foundRow, foundIn, foundAt, nullIn, givenImage, setsIn};
+ghost use Rattle.scans.specs.FirstFrom.{FirstFrom, FirstRow};
+ghost use Rattle.found.specs.Sought.{foundRow, foundAt, nullIn, givenImage, setsIn};
+use rows::SoughtKey;
 use rows::TableRows;
 
 // A column and what it holds: NULL, or a value.
@@ -84,7 +85,7 @@ fn is_found_null(area: &[i64], p: usize, w: usize, sought: Cell) -> bool
 // The first row from `from` on that is found, where NULL is sought; the number of rows where there is none.
 fn first_null(area: &[i64], table: TableRows, sought: Cell, from: usize) -> usize
     requires { ⌜ (Standing (now area) table × (from ≤ table .count)) × ((sought .column < 8) × (sought .null ≡ true)) ⌝ }
-    ensures { λ x. ⌜ FirstFrom (foundIn sought (rowsIn (now (area .entry)) table)) (table .count) from x ⌝ }
+    ensures { λ x. ⌜ FirstRow (foundRow sought) (now (area .entry)) table from x ⌝ }
 {
     let start = table.start;
     let w = table.width;
@@ -103,12 +104,14 @@ fn first_null(area: &[i64], table: TableRows, sought: Cell, from: usize) -> usiz
 // The first row from `from` on that is found, where a value is sought; the number of rows where there is none.
 fn first_equal(area: &[i64], table: TableRows, sought: Cell, from: usize) -> usize
     requires { ⌜ (Standing (now area) table × (from ≤ table .count)) × ((suc (sought .column) < table .width) × (sought .null ≡ false)) ⌝ }
-    ensures { λ x. ⌜ FirstFrom (foundIn sought (rowsIn (now (area .entry)) table)) (table .count) from x ⌝ }
+    ensures { λ x. ⌜ FirstRow (foundRow sought) (now (area .entry)) table from x ⌝ }
 {
-    let image = [256, sought.value, 0, 0, 0, 0, 0, 0, 0];
-    let cs = [sought.column, 0, 0, 0, 0, 0, 0, 0];
-    let ds = [0usize; 8];
-    scans::first_with_key(area, table, &image, 1, &cs, &ds, from)
+    let key = SoughtKey {
+        n: 1,
+        cs: [sought.column, 0, 0, 0, 0, 0, 0, 0],
+        vs: [sought.value, 0, 0, 0, 0, 0, 0, 0],
+    };
+    scans::first_with_key(area, table, key, from)
 }
 
 // The next row of table t, from row `from` on, that is found; the number of rows where there is none.

@@ -9,22 +9,23 @@ use borrow.Author.Tests.{eq-eqb, ne-eqb}
 use lib.Dec.{eqb, eqb→eq}
 use lib.IntN.{ℤ}
 use lib.ListN.{length, getD, take}
-use Rattle.schema.specs.Bounds.{Columns}
 use Rattle.schema.specs.Records.{ForeignKey, keyOf}
 use Rattle.schema.specs.Fields.{schemaOf}
-use Rattle.schema.proofs.RangeLaws.{and-left}
+use Rattle.schema.proofs.RangeLaws.{and-left, and-right}
 use Rattle.schema.proofs.FieldLaws.{same-width}
 use Rattle.rules.specs.Lists.{any, count, one}
 use Rattle.rules.specs.Rows.{Row, Tables, live}
-use Rattle.rules.specs.Keys.{sameKey, mapsTo, orphan, takes, sameParentKey, fires}
+use Rattle.rules.specs.Keys.{sameKey, fullKey, mapsTo, orphan, takes, sameParentKey, fires}
 use Rattle.bridge.specs.Fit.{workOf}
 use Rattle.bridge.specs.Ready.{Placed}
 use Rattle.bridge.proofs.Tests.{holds}
 use Rattle.rows.specs.declared.TableRows.{TableRows}
 use Rattle.rows.specs.Standing.{Standing, RowsOf, rowsIn}
 use Rattle.rows.specs.KeyColumns.{KeyColumns}
-use Rattle.rows.proofs.TableLaws.{child-table, parent-wide, parent-in, standing, rows-are}
-use Rattle.skips.specs.WithKey.{withKey}
+use Rattle.rows.proofs.TableLaws.{child-table, parent-in, standing, rows-are}
+use Rattle.rows.specs.declared.SoughtKey.{SoughtKey}
+use Rattle.rows.specs.Sought.{hasSought, SoughtIn, withKey, SoughtOf}
+use Rattle.rows.proofs.SoughtLaws.{sought-ready, any-sought, count-sought}
 use Rattle.constraints.proofs.ServedLaws.{some-columns}
 use Rattle.moves.specs.Movement.{pick, except, exceptIf, ownOrphan, strandedRows}
 use Rattle.moves.proofs.Taken.{stranded-rows}
@@ -74,6 +75,11 @@ pub fires-parent : (k : ForeignKey) (t : ℕ) (x y : Row) → fires y t x k ≡ 
 unfolding fires
 fires-parent k t x y h = eqb→eq (k .parent) t (holds (and-left (eqb (k .parent) t) _ h))
 
+-- the old key then has no NULL
+pub fires-full : (k : ForeignKey) (t : ℕ) (x y : Row) {ps : List ℕ} → ps ≡ k .parentColumns → fires y t x k ≡ true → fullKey ps x ≡ true
+unfolding fires
+fires-full k t x y e h = rw e (and-left (fullKey (k .parentColumns) x) _ (and-right (eqb (k .parent) t) _ h))
+
 -- ---- the scans
 module _ (b : List ℕ) (a : List ℤ) (k t r n : ℕ) (cs ps : List ℕ) (h : Placed b a t r) (c : KeyColumns b k n cs ps) where
   abbrev K : ForeignKey
@@ -101,8 +107,8 @@ module _ (b : List ℕ) (a : List ℤ) (k t r n : ℕ) (cs ps : List ℕ) (h : P
     pub children-stand : Standing a rows
     children-stand = standing b a (h .ready) p child-there rows o
 
-    pub children-columns : (1 ≤ n) × (Columns (rows .width) n cs × Columns 9 n ps)
-    children-columns = (some-columns b k n cs ps c, (rw (o .width-is, e) (c .child-within), parent-wide b k n cs ps c))
+    pub children-sought : {x : Row} {key : SoughtKey} → SoughtOf n cs ps x key → (1 ≤ key .n) × SoughtIn (rows .width) key
+    children-sought s = sought-ready s (some-columns b k n cs ps c) (rw (o .width-is, e) (c .child-within))
 
     pub children-few : {m : ℕ} → m ≤ rows .count → m ≤ 1024
     children-few l = omega (arith, l, children-stand .few)
@@ -113,23 +119,23 @@ module _ (b : List ℕ) (a : List ℤ) (k t r n : ℕ) (cs ps : List ℕ) (h : P
     pub row-below : p ≡ t → r < rows .count
     row-below f = rw (o .count-is, f) (h .row)
 
-    pub taken-others : p ≡ t → (x : Row) → count (withKey (take n cs) (take n ps) x) (except r (rowsIn a rows)) ≡ takenRows (keyOf (schemaOf b) k) t r x (workOf (schemaOf b) a .tabs)
+    pub taken-others : p ≡ t → (x : Row) {key : SoughtKey} → SoughtOf n cs ps x key → count (hasSought key) (except r (rowsIn a rows)) ≡ takenRows (keyOf (schemaOf b) k) t r x (workOf (schemaOf b) a .tabs)
     unfolding takenRows exceptIf
-    taken-others f x = rw (eq-eqb (K .child) t (sym e ∙ f)) (ap₂ (λ q l. count q (except r l)) (takes-with x) children-are)
+    taken-others f x s = rw (eq-eqb (K .child) t (sym e ∙ f)) (count-sought s (except r (rowsIn a rows)) ∙ ap₂ (λ q l. count q (except r l)) (takes-with x) children-are)
 
-    pub taken-all : (p ≡ t → ⊥) → (x : Row) → count (withKey (take n cs) (take n ps) x) (rowsIn a rows) ≡ takenRows (keyOf (schemaOf b) k) t r x (workOf (schemaOf b) a .tabs)
+    pub taken-all : (p ≡ t → ⊥) → (x : Row) {key : SoughtKey} → SoughtOf n cs ps x key → count (hasSought key) (rowsIn a rows) ≡ takenRows (keyOf (schemaOf b) k) t r x (workOf (schemaOf b) a .tabs)
     unfolding takenRows exceptIf
-    taken-all f x = rw (ne-eqb (K .child) t (λ q. f (e ∙ q))) (ap₂ (λ q l. count q l) (takes-with x) children-are)
+    taken-all f x s = rw (ne-eqb (K .child) t (λ q. f (e ∙ q))) (count-sought s (rowsIn a rows) ∙ ap₂ (λ q l. count q l) (takes-with x) children-are)
 
   -- the parent rows
   module _ (e : keyOf (schemaOf b) k .parent ≡ t) (rows : TableRows) (o : RowsOf b t rows) where
     pub parents-stand : Standing a rows × (r < rows .count)
     parents-stand = (standing b a (h .ready) t (h .table) rows o, rw (o .count-is) (h .row))
 
-    pub parents-columns : (1 ≤ n) × (Columns (rows .width) n ps × Columns 9 n ps)
-    parents-columns = (some-columns b k n cs ps c, (parent-in b k n cs ps c (sym e) o, parent-wide b k n cs ps c))
+    pub parents-sought : {x : Row} {key : SoughtKey} → SoughtOf n ps ps x key → (1 ≤ key .n) × SoughtIn (rows .width) key
+    parents-sought s = sought-ready s (some-columns b k n cs ps c) (parent-in b k n cs ps c (sym e) o)
 
-    pub twin-is : (x : Row) → any (withKey (take n ps) (take n ps) x) (except r (rowsIn a rows)) ≡ hasTwin (keyOf (schemaOf b) k) r x (workOf (schemaOf b) a .tabs)
+    pub twin-is : (x : Row) {key : SoughtKey} → SoughtOf n ps ps x key → any (hasSought key) (except r (rowsIn a rows)) ≡ hasTwin (keyOf (schemaOf b) k) r x (workOf (schemaOf b) a .tabs)
     unfolding hasTwin
-    twin-is x =
-        ap₂ (λ q l. any q (except r l)) (twin-with x) (rows-are b a (h .ready) t (h .table) rows o ∙ ap (λ q. getD tabs q []) (sym e))
+    twin-is x s =
+        any-sought s (except r (rowsIn a rows)) ∙ ap₂ (λ q l. any q (except r l)) (twin-with x) (rows-are b a (h .ready) t (h .table) rows o ∙ ap (λ q. getD tabs q []) (sym e))

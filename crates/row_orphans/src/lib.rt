@@ -1,10 +1,12 @@
 // The orphans that a row makes by having one image and not another.
 ghost use mathlib.Core.Path.{_≡_};
+ghost use mathlib.Core.Bool.{true};
 ghost use Prim.Native.Nat.{_≤_, _<_};
-ghost use lib.ListN.{length};
+ghost use lib.ListN.{length, take};
 ghost use Rattle.schema.specs.Records.{keyOf};
 ghost use Rattle.schema.specs.Fields.{schemaOf};
 ghost use Rattle.schema.specs.Check.{checkSchema};
+ghost use Rattle.rules.specs.Keys.{fullKey};
 ghost use Rattle.bridge.specs.Fit.{workOf};
 ghost use Rattle.bridge.specs.Ready.{Ready, Placed};
 ghost use Rattle.moves.specs.Movement.{ownOrphan, strandedRows};
@@ -45,7 +47,7 @@ fn own_orphan(
     0
 }
 
-// How many child rows of foreign key k, but for row r of table t, have an image's parent key.
+// How many child rows of foreign key k, but for row r of table t, have an image's parent key, which has no NULL in it.
 fn taken_rows(
     schema: &[u8],
     area: &[i64],
@@ -57,18 +59,19 @@ fn taken_rows(
     cs: [usize; 8],
     ps: [usize; 8],
 ) -> usize
-    requires { ⌜ Placed (now schema) (now area) t r × KeyColumns (now schema) k n cs ps ⌝ }
+    requires { ⌜ (Placed (now schema) (now area) t r × KeyColumns (now schema) k n cs ps) × (fullKey (take n ps) image ≡ true) ⌝ }
     ensures { λ x. ⌜ (x ≡ RowOrphans.takenRows (keyOf (schemaOf (now (schema .entry))) k) t r image (workOf (schemaOf (now (schema .entry))) (now (area .entry)) .tabs)) × (x ≤ 1024) ⌝ }
 {
     let child = fields::child(schema, k);
     let children = rows::rows_of(schema, child);
+    let key = rows::sought_key(image, n, cs, ps);
     if child == t {
-        return scans::count_others_with_key(area, children, r, &image, n, &cs, &ps);
+        return scans::count_others_with_key(area, children, r, key);
     }
-    scans::count_with_key(area, children, &image, n, &cs, &ps)
+    scans::count_with_key(area, children, key)
 }
 
-// Whether a row of table t other than row r has an image's parent key of foreign key k.
+// Whether a row of table t other than row r has an image's parent key of foreign key k, which has no NULL in it.
 fn has_twin(
     schema: &[u8],
     area: &[i64],
@@ -80,11 +83,12 @@ fn has_twin(
     cs: [usize; 8],
     ps: [usize; 8],
 ) -> bool
-    requires { ⌜ (Placed (now schema) (now area) t r × KeyColumns (now schema) k n cs ps) × (keyOf (schemaOf (now schema)) k .parent ≡ t) ⌝ }
+    requires { ⌜ (Placed (now schema) (now area) t r × KeyColumns (now schema) k n cs ps) × ((keyOf (schemaOf (now schema)) k .parent ≡ t) × (fullKey (take n ps) image ≡ true)) ⌝ }
     ensures { λ x. ⌜ x ≡ RowOrphans.hasTwin (keyOf (schemaOf (now (schema .entry))) k) r image (workOf (schemaOf (now (schema .entry))) (now (area .entry)) .tabs) ⌝ }
 {
     let parents = rows::rows_of(schema, t);
-    scans::other_with_key(area, parents, r, &image, n, &ps, &ps)
+    let key = rows::sought_key(image, n, ps, ps);
+    scans::other_with_key(area, parents, r, key)
 }
 
 // How many child rows of foreign key k lose their parent row when row r of table t turns from image x to image y.

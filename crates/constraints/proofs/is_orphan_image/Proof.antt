@@ -1,6 +1,7 @@
-use mathlib.Core.Path.{subst}
+use mathlib.Core.Path.{sym, _∙_, subst}
 use Prim.Native.Nat.{ℕ}
 use borrow.Author.Needs.{needs}
+use borrow.Author.Tests.{not-false}
 use Rattle.rows.specs.Standing.{RowsOf}
 use Rattle.rows.proofs.TableLaws.{child-wide}
 use Rattle.constraints.proofs.ServedLaws.{orphan-undue, orphan-due}
@@ -23,7 +24,8 @@ is-served-requires : tie.Need-is-served-requires
 is-served-requires c κs =
     let s = c .before .before .before .before .before in
     let parents = c .rows-of in
-    (s .pre .0, (s .pre .1, subst (λ (t : ℕ). RowsOf (s .args .schema .now) t (parents .result)) (c .before .parent .ensures .0) (parents .ensures)))
+    let full = sym (c .before .before .before .image-full-key .ensures) ∙ not-false _ (c .before .before .if1 .left) in
+    ((s .pre .0, full), (s .pre .1, subst (λ (t : ℕ). RowsOf (s .args .schema .now) t (parents .result)) (c .before .parent .ensures .0) (parents .ensures)))
 
 returns-2 : tie.Need-returns-2
 returns-2 c =

@@ -1,4 +1,5 @@
 use Rattle.constraints.proofs.UniqueLaws.{mask-some, twice-except}
+use Rattle.rows.proofs.SoughtLaws.{sought-ready, any-sought}
 use mathlib.Core.Path.{sym, _∙_}
 use borrow.Author.Needs.{needs}
 use borrow.Author.Tests.{not-true, not-false}
@@ -33,23 +34,34 @@ returns-2 c =
     let h = sym (c .before .image-full-key .ensures) ∙ not-true _ (c .if2 .taken) in
     mask-null (s .args .m) cs k g _ _ _ (c .before .before .before .before .if1 .left) h
 
+sought-key-requires : tie.Need-sought-key-requires
+sought-key-requires c κs =
+    let s = c .before .before .before .before .before in
+    let mask-count = c .before .before .before .mask-count in
+    let mask-columns = c .before .before .mask-columns in
+    let columns = mask-array (s .args .m) (mask-columns .result) (mask-count .ensures .0) (mask-columns .ensures) (search needs) (mask-count .ensures .1) (s .pre .1 .0) in
+    (widen (s .pre .0 .0 .narrow) columns, sym (c .before .image-full-key .ensures) ∙ not-false _ (c .if2 .left))
+
 other-with-key-requires : tie.Need-other-with-key-requires
 other-with-key-requires c κs =
-    let s = c .before .before .before .before .before .before .before .before in
-    let cs = c .before .before .before .before .before .mask-columns .result in
-    let k = c .before .before .before .before .before .before .mask-count .ensures .0 in
-    let g = c .before .before .before .before .before .mask-columns .ensures in
-    let columns = mask-array (s .args .m) cs k g (search needs) (c .before .before .before .before .before .before .mask-count .ensures .1) (s .pre .1 .0) in
-    (s .pre .0, (mask-some (s .args .m) (s .pre .1 .1) (c .before .before .before .before .before .before .before .if1 .left) k, (columns, widen (s .pre .0 .0 .narrow) columns)))
+    let s = c .before .before .before .before .before .before in
+    let if1 = c .before .before .before .before .before .if1 in
+    let mask-count = c .before .before .before .before .mask-count in
+    let mask-columns = c .before .before .before .mask-columns in
+    let columns = mask-array (s .args .m) (mask-columns .result) (mask-count .ensures .0) (mask-columns .ensures) (search needs) (mask-count .ensures .1) (s .pre .1 .0) in
+    (s .pre .0, sought-ready (c .sought-key .ensures) (mask-some (s .args .m) (s .pre .1 .1) (if1 .left) (mask-count .ensures .0)) columns)
 
 returns-3 : tie.Need-returns-3
 returns-3 c =
-    let s = c .before .before .before .before .before .before .before .before .before in
-    let cs = c .before .before .before .before .before .before .mask-columns .result in
-    let k = c .before .before .before .before .before .before .before .mask-count .ensures .0 in
-    let g = c .before .before .before .before .before .before .mask-columns .ensures in
-    let full = sym (c .before .before .before .before .before .image-full-key .ensures) ∙ not-false _ (c .before .before .before .before .if2 .left) in
-    c .other-with-key .ensures ∙ twice-except _ _ _ _ ∙ mask-full (s .args .m) cs k g _ _ _ (c .before .before .before .before .before .before .before .before .if1 .left) full
+    let s = c .before .before .before .before .before .before .before in
+    let if1 = c .before .before .before .before .before .before .if1 in
+    let mask-count = c .before .before .before .before .before .mask-count in
+    let mask-columns = c .before .before .before .before .mask-columns in
+    let full = sym (c .before .before .before .image-full-key .ensures) ∙ not-false _ (c .before .before .if2 .left) in
+    c .other-with-key .ensures
+    ∙ any-sought (c .before .sought-key .ensures) _
+    ∙ twice-except _ _ _ _
+    ∙ mask-full (s .args .m) (mask-columns .result) (mask-count .ensures .0) (mask-columns .ensures) _ _ _ (if1 .left) full
 
 pub mask-broken-spec : {M : Type 1} → statement M
 mask-broken-spec =
@@ -60,5 +72,6 @@ mask-broken-spec =
     mask-columns-requires
     image-full-key-requires
     returns-2
+    sought-key-requires
     other-with-key-requires
     returns-3)

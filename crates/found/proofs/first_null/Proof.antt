@@ -1,17 +1,19 @@
 use mathlib.Core.Path.{_≡_}
 use mathlib.Core.Bool.{false}
+use mathlib.Core.List.{[]}
 use Prim.Native.Nat.{ℕ, _-_, _<_, _≤_}
 use native.Mathlib.Omega.{arith}
+use lib.ListN.{getD}
 use Rattle.rows.specs.Standing.{rowsIn}
 use Rattle.rows.proofs.TableLaws.{row-at}
-use Rattle.scans.proofs.FirstLaws.{none-more, first-stop, first-none}
-use Rattle.found.specs.Sought.{foundIn}
-use Rattle.found.proofs.SoughtLaws.{found-tested, filled-passed}
+use Rattle.scans.proofs.FirstLaws.{tested, none-more, first-stop, first-none}
+use Rattle.found.specs.Sought.{foundRow}
+use Rattle.found.proofs.SoughtLaws.{filled-passed}
 use Rattle.found.proofs.first_null.Statement.{statement}
 use Rattle.found.proofs.first_null.Tie as tie
 
 abbrev Inv-loop : tie.InvT-loop
-Inv-loop area table sought from start w rows c j₀ j = (from ≤ j) × ((i : ℕ) → from ≤ i → i < j → foundIn sought (rowsIn area table) i ≡ false)
+Inv-loop area table sought from start w rows c j₀ j = (from ≤ j) × ((i : ℕ) → from ≤ i → i < j → foundRow sought (getD (rowsIn area table) i []) ≡ false)
 
 abbrev μ-loop : tie.MeasureT-loop
 μ-loop area table sought from start w rows c j₀ j = rows - j
@@ -24,7 +26,7 @@ skip-filled-requires c κs =
 loop-holds : tie.Need-loop-holds Inv-loop μ-loop
 loop-holds c =
     let s = c .before in
-    (c .skip-filled .ensures .low, filled-passed (s .args .sought) (s .pre .1 .1) (c .skip-filled .ensures))
+    (c .skip-filled .ensures .low, filled-passed (s .args .sought) (s .pre .1 .1) (c .skip-filled .ensures) .none)
 
 mul-is-found-null : tie.Need-mul-is-found-null Inv-loop μ-loop
 mul-is-found-null c =
@@ -48,7 +50,7 @@ returns : tie.Need-returns Inv-loop μ-loop
 returns c =
     let s = c .before .before .before .before .before in
     let l = c .before .before .before .loop in
-    first-stop (l .j) (l .inv .0) (c .before .before .loop-test .taken) (l .inv .1) (found-tested (s .args .area .now) (s .args .table) (s .args .sought) (l .j) (c .before .before .loop-test .taken) (c .before .is-found-null .ensures) (c .if1 .taken))
+    first-stop (l .j) (l .inv .0) (c .before .before .loop-test .taken) (l .inv .1) (tested (foundRow (s .args .sought)) (s .args .area .now) (s .args .table) (l .j) (c .before .before .loop-test .taken) (c .before .is-found-null .ensures) (c .if1 .taken))
 
 add-skip-filled : tie.Need-add-skip-filled Inv-loop μ-loop
 add-skip-filled c = omega (arith, c .before .before .before .before .before .pre .0 .0 .few, c .before .before .loop-test .taken)
@@ -65,8 +67,8 @@ loop-again : tie.Need-loop-again Inv-loop μ-loop
 loop-again c =
     let s = c .before .before .before .before .before .before in
     let l = c .before .before .before .before .loop in
-    let miss = found-tested (s .args .area .now) (s .args .table) (s .args .sought) (l .j) (c .before .before .before .loop-test .taken) (c .before .before .is-found-null .ensures) (c .before .if1 .left) in
-    let past = filled-passed (s .args .sought) (s .pre .1 .1) (c .skip-filled2 .ensures) in
+    let miss = tested (foundRow (s .args .sought)) (s .args .area .now) (s .args .table) (l .j) (c .before .before .before .loop-test .taken) (c .before .before .is-found-null .ensures) (c .before .if1 .left) in
+    let past = filled-passed (s .args .sought) (s .pre .1 .1) (c .skip-filled2 .ensures) .none in
     (omega (arith, l .inv .0, c .skip-filled2 .ensures .low), none-more (l .j) _ (l .inv .1) miss past)
 
 returns-2 : tie.Need-returns-2 Inv-loop μ-loop

@@ -4,7 +4,7 @@ use borrow.Author.Tests.{not-true, not-false}
 use Rattle.schema.specs.Records.{keyOf}
 use Rattle.schema.specs.Fields.{schemaOf}
 use Rattle.bridge.specs.Fit.{workOf}
-use Rattle.row_orphans.proofs.KeyLaws.{same-columns, none-fires, none-taken, fires-parent, twin-serves, all-stranded}
+use Rattle.row_orphans.proofs.KeyLaws.{same-columns, none-fires, none-taken, fires-parent, fires-full, twin-serves, all-stranded}
 use borrow.Author.Needs.{needs}
 use Rattle.row_orphans.proofs.stranded_rows.Statement.{statement}
 use Rattle.row_orphans.proofs.stranded_rows.Tie as tie
@@ -22,7 +22,11 @@ returns c =
     (none-fires k same (a .t) (a .r) (a .x) (a .y) tabs (sym (c .before .fires .ensures) ∙ not-true _ (c .if1 .taken)), omega arith)
 
 taken-rows-requires : tie.Need-taken-rows-requires
-taken-rows-requires c κs = search needs
+taken-rows-requires c κs =
+    let s = c .before .before .before in
+    let a = s .args in
+    let k = keyOf (schemaOf (a .schema .now)) (a .k) in
+    (s .pre, fires-full k (a .t) (a .x) (a .y) (s .pre .1 .parent-is) (sym (c .before .fires .ensures) ∙ not-false _ (c .if1 .left)))
 
 returns-2 : tie.Need-returns-2
 returns-2 c =
@@ -38,7 +42,8 @@ has-twin-requires c κs =
     let s = c .before .before .before .before .before in
     let a = s .args in
     let k = keyOf (schemaOf (a .schema .now)) (a .k) in
-    (s .pre, fires-parent k (a .t) (a .x) (a .y) (sym (c .before .before .before .fires .ensures) ∙ not-false _ (c .before .before .if1 .left)))
+    let on = sym (c .before .before .before .fires .ensures) ∙ not-false _ (c .before .before .if1 .left) in
+    (s .pre, (fires-parent k (a .t) (a .x) (a .y) on, fires-full k (a .t) (a .x) (a .y) (s .pre .1 .parent-is) on))
 
 returns-3 : tie.Need-returns-3
 returns-3 c =
