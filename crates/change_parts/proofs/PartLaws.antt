@@ -1,32 +1,22 @@
--- Laws of the parts of a row change.
+-- Laws of the checks of a row change, of its action and of the image that this gives a child row.
 -- Assumes nothing.
-use mathlib.Core.Path.{_≡_, refl, sym, ap, _∙_, subst}
-use mathlib.Core.Bool.{true, false}
-use mathlib.Core.List.{List, []}
-use Prim.Native.Nat.{ℕ, _≤_, _<_}
+use mathlib.Core.Path.{_≡_, refl, sym, ap}
+use mathlib.Core.Bool.{Bool, true, false, not}
+use mathlib.Core.List.{[]}
+use Prim.Native.Nat.{ℕ}
 use lib.Dec.{eqb}
-use lib.IntN.{ℤ}
-use lib.ListN.{length, getD, take}
-use Rattle.schema.specs.Records.{ForeignKey, Schema, tableOf, keyOf}
-use Rattle.schema.specs.Bounds.{Columns}
-use Rattle.schema.specs.Fields.{schemaOf}
+use lib.ListN.{length, getD, replicate}
+use Rattle.schema.specs.declared.Action.{Action}
+use Rattle.schema.specs.declared.Action.the-variants.{Cascade}
+use Rattle.schema.specs.Records.{ForeignKey, Schema, tableOf}
 use Rattle.rules.specs.declared.Refusal.the-variants.{JournalFull, NotNull, NotUnique}
 use Rattle.rules.specs.declared.Verdict.the-variants.{Pass, Fail}
 use Rattle.rules.specs.Refusals.{failing}
-use Rattle.rules.specs.Rows.{Row, rowAt, live}
-use Rattle.rules.specs.Keys.{mapsTo, takes}
+use Rattle.rules.specs.Lists.{𝟘}
+use Rattle.rules.specs.Rows.{Row, deletedImage, live}
 use Rattle.rules.specs.Book.{Work}
-use Rattle.rules.specs.Change.{notNullBroken, uniqueBroken, admits, actionOf}
-use Rattle.bridge.specs.Fit.{workOf}
-use Rattle.bridge.specs.Ready.{Ready}
-use Rattle.rows.specs.declared.TableRows.{TableRows}
-use Rattle.rows.specs.Standing.{rowsIn, RowsOf}
-use Rattle.rows.specs.KeyColumns.{KeyColumns}
-use Rattle.rows.proofs.TableLaws.{rows-are, parent-wide}
-use Rattle.skips.specs.WithKey.{withKey, withKeyAt}
-use Rattle.scans.specs.FirstFrom.{FirstFrom}
-use Rattle.constraints.proofs.ServedLaws.{some-columns}
-use Rattle.change_parts.specs.Turns.{takesAt}
+use Rattle.rules.specs.Change.{notNullBroken, uniqueBroken, admits, childImage, cascaded, actionOf}
+use Rattle.change_parts.specs.Turns.{deletesChild, actionImage}
 
 -- ---- the checks
 
@@ -54,19 +44,6 @@ module _ (s : Schema) (t r : ℕ) (new : Row) (w : Work) where
         unfolding admits failing
         admits-pass e = sym (rw (room, on, full, e) refl)
 
--- ---- the next row that is taken
-
--- a row with the old key in the child columns is one that the action takes
-pub taken-first : (b : List ℕ) (a : List ℤ) (k : ℕ) (n : ℕ) (cs ps : List ℕ) (t : ℕ) (x : TableRows) (old : Row) {from i : ℕ} → Ready b a → t < length (schemaOf b .tables) → t ≡ keyOf (schemaOf b) k .child → RowsOf b t x → KeyColumns b k n cs ps
-    → FirstFrom (withKeyAt (take n cs) (take n ps) old (rowsIn a x)) (x .count) from i
-    → FirstFrom (takesAt (keyOf (schemaOf b) k) old (workOf (schemaOf b) a .tabs)) (tableOf (schemaOf b) (keyOf (schemaOf b) k .child) .rows) from i
-unfolding takesAt withKeyAt withKey takes mapsTo rowAt
-taken-first b a k n cs ps t x old {from} {i} r lt e o c f =
-    let q : rowsIn a x ≡ getD (workOf (schemaOf b) a .tabs) (keyOf (schemaOf b) k .child) [] = rows-are b a r t lt x o ∙ ap (λ (u : ℕ). getD (workOf (schemaOf b) a .tabs) u []) e in
-    let m : x .count ≡ tableOf (schemaOf b) (keyOf (schemaOf b) k .child) .rows = o .count-is ∙ ap (λ (u : ℕ). tableOf (schemaOf b) u .rows) e in
-    subst (λ (u : ℕ). FirstFrom (λ j. takes (keyOf (schemaOf b) k) old (rowAt (keyOf (schemaOf b) k .child) j (workOf (schemaOf b) a .tabs))) u from i) m
-    (rw (q, c .child-is, c .parent-is) at f)
-
 -- ---- the action
 
 module _ (new : Row) (k : ForeignKey) where
@@ -78,10 +55,22 @@ module _ (new : Row) (k : ForeignKey) where
   unfolding actionOf
   action-delete e = sym (rw (e, actionOf) refl)
 
--- ---- the rows of a child table
-module _ (b : List ℕ) (k : ℕ) {t : ℕ} {x : TableRows} (e : t ≡ keyOf (schemaOf b) k .child) (o : RowsOf b t x) where
-  pub child-columns : {n : ℕ} {cs ps : List ℕ} → KeyColumns b k n cs ps → (1 ≤ n) × (Columns (x .width) n cs × Columns 9 n ps)
-  child-columns {n} {cs} {ps} c = (some-columns b k n cs ps c, (rw (o .width-is, e) (c .child-within), parent-wide b k n cs ps c))
+-- ---- the image that it gives a child row
 
-  pub from-rows : {from : ℕ} → from ≤ tableOf (schemaOf b) (keyOf (schemaOf b) k .child) .rows → from ≤ x .count
-  from-rows l = rw (o .count-is, e) l
+module _ (s : Schema) (k : ForeignKey) (new x : Row) where
+  pub cascade-image : cascaded s k new x ≡ actionImage Cascade s k new x
+  unfolding cascaded actionImage deletesChild
+  cascade-image = by (live new)
+    where
+      by : (b : Bool) → _≡_ {A = Row} (elim b [ true ↦ childImage Cascade s k new x | false ↦ deletedImage ]) (elim (not b) [ true ↦ deletedImage | false ↦ childImage Cascade s k new x ])
+      by true = refl
+      by false = refl
+
+  module _ (a : Action) where
+    pub image-deleted : deletesChild a new ≡ true → replicate 9 𝟘 ≡ actionImage a s k new x
+    unfolding actionImage deletedImage
+    image-deleted e = sym (ap {B = Row} (λ b. elim b [ true ↦ deletedImage | false ↦ childImage a s k new x ]) e)
+
+    pub image-kept : deletesChild a new ≡ false → childImage a s k new x ≡ actionImage a s k new x
+    unfolding actionImage
+    image-kept e = sym (ap {B = Row} (λ b. elim b [ true ↦ deletedImage | false ↦ childImage a s k new x ]) e)

@@ -1,34 +1,36 @@
--- What the walks look for, and what an action makes of a child row.
+-- What an action makes of a child row, and what the walk over child rows is given.
 -- Assumes nothing.
 use mathlib.Core.Path.{_≡_}
-use mathlib.Core.Bool.{Bool}
+use mathlib.Core.Bool.{Bool, true, false, not}
 use mathlib.Core.List.{List}
-use Prim.Native.Nat.{ℕ, _<_}
+use Prim.Native.Nat.{ℕ}
 use lib.ListN.{length}
 use Rattle.schema.specs.declared.Action.{Action}
 use Rattle.schema.specs.declared.Action.the-variants.{NoAction, Restrict, SetNull, SetDefault, Cascade}
-use Rattle.schema.specs.declared.SchemaAnswer.the-variants.{Accepted}
 use Rattle.schema.specs.Records.{ForeignKey, Schema, keyOf}
 use Rattle.schema.specs.Fields.{schemaOf}
-use Rattle.schema.specs.Check.{checkSchema}
-use Rattle.rules.specs.Rows.{Row, Tables, rowAt}
-use Rattle.rules.specs.Keys.{takes}
-use Rattle.rules.specs.Change.{childImage, cascaded}
+use Rattle.rules.specs.Rows.{Row, deletedImage, live}
+use Rattle.rules.specs.Change.{childImage, actionOf}
+use Rattle.rows.specs.Standing.{RowsOf}
+use Rattle.rows.specs.KeyColumns.{KeyColumns}
+use Rattle.change_parts.specs.declared.Followers.{Followers}
 
--- the action of foreign key k takes row j of its child table
-unfoldable pub takesAt : ForeignKey → Row → Tables → ℕ → Bool
-takesAt k old tabs j = takes k old (rowAt (k .child) j tabs)
+-- an action deletes the child row: CASCADE, where the parent row is deleted
+unfoldable pub deletesChild : Action → Row → Bool
+deletesChild NoAction new = false
+deletesChild Restrict new = false
+deletesChild SetNull new = false
+deletesChild SetDefault new = false
+deletesChild Cascade new = not (live new)
 
 -- the image that an action gives the child row x
 unfoldable pub actionImage : Action → Schema → ForeignKey → Row → Row → Row
-actionImage NoAction s k new x = childImage NoAction s k new x
-actionImage Restrict s k new x = childImage Restrict s k new x
-actionImage SetNull s k new x = childImage SetNull s k new x
-actionImage SetDefault s k new x = childImage SetDefault s k new x
-actionImage Cascade s k new x = cascaded s k new x
+actionImage a s k new x = elim (deletesChild a new) [ true ↦ deletedImage | false ↦ childImage a s k new x ]
 
--- the schema's bytes are accepted, and t is the child table of foreign key k
-pub record ChildAt (b : List ℕ) (k t : ℕ) : Type 0 where
-  pub accepted : checkSchema b ≡ Accepted
-  pub key : k < length (schemaOf b .keys)
-  pub child : t ≡ keyOf (schemaOf b) k .child
+-- what foreign key k's child rows are gone through by, when the parent row becomes `new`; whatever the old key is
+pub record FollowersOf (b : List ℕ) (k : ℕ) (new : Row) (x : Followers) : Type 0 where
+  pub columns : KeyColumns b k (x .key .n) (x .key .cs) (x .ps)
+  pub size : length (x .key .vs) ≡ 8
+  pub table-is : x .table ≡ keyOf (schemaOf b) k .child
+  pub stand : RowsOf b (x .table) (x .rows)
+  pub action-is : x .action ≡ actionOf new (keyOf (schemaOf b) k)

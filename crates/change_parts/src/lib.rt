@@ -1,21 +1,35 @@
 // The parts of a row change: its checks, the child rows that its actions take, and the images that they give them.
 ghost use mathlib.Core.Path.{_≡_};
-ghost use Prim.Native.Nat.{_≤_, _<_};
+ghost use mathlib.Core.Bool.{true};
+ghost use Prim.Native.Nat.{_<_};
 ghost use lib.ListN.{length};
-ghost use Rattle.schema.specs.Records.{tableOf, keyOf};
+ghost use Rattle.schema.specs.Records.{keyOf};
 ghost use Rattle.schema.specs.Fields.{schemaOf};
 ghost use Rattle.schema.specs.Check.{checkSchema};
 ghost use Rattle.rules.specs.Rows;
+ghost use Rattle.rules.specs.Keys.{fullKey};
+ghost use Rattle.rules.specs.KeyValues.{keyValues};
 ghost use Rattle.rules.specs.Change;
 ghost use Rattle.bridge.specs.Fit.{workOf};
-ghost use Rattle.bridge.specs.Ready.{Ready, Placed};
-ghost use Rattle.rows.specs.KeyColumns.{KeyColumns};
-ghost use Rattle.scans.specs.FirstFrom.{FirstFrom};
-ghost use Rattle.change_parts.specs.Turns.{takesAt, actionImage, ChildAt};
+ghost use Rattle.bridge.specs.Ready.{Placed};
+ghost use Rattle.rows.specs.Sought.{soughtValues};
+ghost use Rattle.change_parts.specs.Turns.{deletesChild, actionImage, FollowersOf};
+use rows::SoughtKey;
+use rows::TableRows;
 use rules::Refusal;
 use rules::Verdict;
 use schema::Action;
 use schema::SchemaAnswer;
+
+// What the child rows of a foreign key are gone through by: their table and where they stand, the old parent key in their
+// columns, the parent columns and the action. It is read once, before the first of them is looked at.
+pub struct Followers {
+    pub table: usize,
+    pub rows: TableRows,
+    pub key: SoughtKey,
+    pub ps: [usize; 8],
+    pub action: Action,
+}
 
 // The checks of a row change, in their order.
 pub fn admits(schema: &[u8], area: &[i64], t: usize, r: usize, image: [i64; 9]) -> Verdict
@@ -37,19 +51,6 @@ pub fn admits(schema: &[u8], area: &[i64], t: usize, r: usize, image: [i64; 9]) 
     Verdict::Pass
 }
 
-// The next child row of foreign key k, from row `from` on, that an action takes; the number of rows where there is none.
-pub fn next_taken(schema: &[u8], area: &[i64], k: usize, old: [i64; 9], from: usize) -> usize
-    requires { ⌜ Ready (now schema) (now area) × ((k < length (schemaOf (now schema) .keys)) × (from ≤ tableOf (schemaOf (now schema)) (keyOf (schemaOf (now schema)) k .child) .rows)) ⌝ }
-    ensures { λ x. ⌜ FirstFrom (takesAt (keyOf (schemaOf (now (schema .entry))) k) old (workOf (schemaOf (now (schema .entry))) (now (area .entry)) .tabs)) (tableOf (schemaOf (now (schema .entry))) (keyOf (schemaOf (now (schema .entry))) k .child) .rows) from x ⌝ }
-{
-    let t = fields::child(schema, k);
-    let table = rows::rows_of(schema, t);
-    let n = fields::width(schema, k);
-    let cs = fields::child_columns(schema, k);
-    let ps = fields::parent_columns(schema, k);
-    scans::first_with_key(area, table, &old, n, &cs, &ps, from)
-}
-
 // The action of foreign key k on an update to `new`, or on a deletion.
 pub fn action_of(schema: &[u8], k: usize, new: [i64; 9]) -> Action
     requires { ⌜ (checkSchema (now schema) ≡ SchemaAnswer.Accepted) × (k < length (schemaOf (now schema) .keys)) ⌝ }
@@ -61,45 +62,63 @@ pub fn action_of(schema: &[u8], k: usize, new: [i64; 9]) -> Action
     fields::on_delete(schema, k)
 }
 
-// The image that an action gives a child row.
-fn acted(
-    schema: &[u8],
-    k: usize,
-    action: Action,
-    n: usize,
-    cs: [usize; 8],
-    ps: [usize; 8],
-    new: [i64; 9],
-    x: [i64; 9],
-) -> [i64; 9]
-    requires { ⌜ KeyColumns (now schema) k n cs ps ⌝ }
-    ensures { λ y. ⌜ y ≡ actionImage action (schemaOf (now (schema .entry))) (keyOf (schemaOf (now (schema .entry))) k) new x ⌝ }
+// ---- the child rows that follow a parent row
+
+// What foreign key k's child rows are gone through by, when a parent row turns from `old`, which has no NULL in its key, to `new`.
+pub fn followers_of(schema: &[u8], k: usize, old: [i64; 9], new: [i64; 9]) -> Followers
+    requires { ⌜ ((checkSchema (now schema) ≡ SchemaAnswer.Accepted) × (k < length (schemaOf (now schema) .keys))) × (fullKey (keyOf (schemaOf (now schema)) k .parentColumns) old ≡ true) ⌝ }
+    ensures { λ x. ⌜ FollowersOf (now (schema .entry)) k new x × (soughtValues (x .key) ≡ keyValues (keyOf (schemaOf (now (schema .entry))) k .parentColumns) old) ⌝ }
 {
-    match action {
-        Action::Cascade => images::cascade_image(schema, k, n, cs, ps, new, x),
-        Action::NoAction => images::child_image(schema, k, Action::NoAction, n, cs, ps, new, x),
-        Action::Restrict => images::child_image(schema, k, Action::Restrict, n, cs, ps, new, x),
-        Action::SetNull => images::child_image(schema, k, Action::SetNull, n, cs, ps, new, x),
-        Action::SetDefault => images::child_image(schema, k, Action::SetDefault, n, cs, ps, new, x),
+    let t = fields::child(schema, k);
+    let rows = rows::rows_of(schema, t);
+    let n = fields::width(schema, k);
+    let cs = fields::child_columns(schema, k);
+    let ps = fields::parent_columns(schema, k);
+    let key = rows::sought_key(old, n, cs, ps);
+    let action = action_of(schema, k, new);
+    Followers {
+        table: t,
+        rows: rows,
+        key: key,
+        ps: ps,
+        action: action,
     }
 }
 
-// The image that an action gives row j of foreign key k's child table, t.
+// Whether an action deletes the child row: CASCADE, where the parent row is deleted.
+fn deletes_child(action: Action, new: [i64; 9]) -> bool
+    ensures { λ x. ⌜ x ≡ deletesChild action new ⌝ }
+{
+    match action {
+        Action::NoAction => false,
+        Action::Restrict => false,
+        Action::SetNull => false,
+        Action::SetDefault => false,
+        Action::Cascade => !rows::image_live(new),
+    }
+}
+
+// The image that the action gives row j of foreign key k's child rows.
 pub fn child_after(
     schema: &[u8],
     area: &[i64],
     k: usize,
-    t: usize,
+    f: Followers,
     j: usize,
     new: [i64; 9],
-    action: Action,
 ) -> [i64; 9]
-    requires { ⌜ Placed (now schema) (now area) t j × ChildAt (now schema) k t ⌝ }
-    ensures { λ y. ⌜ y ≡ actionImage action (schemaOf (now (schema .entry))) (keyOf (schemaOf (now (schema .entry))) k) new (Rows.image t j (workOf (schemaOf (now (schema .entry))) (now (area .entry)) .tabs)) ⌝ }
+    requires { ⌜ Placed (now schema) (now area) (f .table) j × FollowersOf (now schema) k new f ⌝ }
+    ensures { λ y. ⌜ y ≡ actionImage (f .action) (schemaOf (now (schema .entry))) (keyOf (schemaOf (now (schema .entry))) k) new (Rows.image (f .table) j (workOf (schemaOf (now (schema .entry))) (now (area .entry)) .tabs)) ⌝ }
 {
-    let x = area::image_of(schema, area, t, j);
-    let n = fields::width(schema, k);
-    let cs = fields::child_columns(schema, k);
-    let ps = fields::parent_columns(schema, k);
-    acted(schema, k, action, n, cs, ps, new, x)
+    let action = f.action;
+    if deletes_child(action, new) {
+        return [0i64; 9];
+    }
+    let rows = f.rows;
+    let w = rows.width;
+    let x = words::image_at(area, rows.start + j * w, w);
+    let key = f.key;
+    let cs = key.cs;
+    let ps = f.ps;
+    images::child_image(schema, k, f.table, action, key.n, cs, ps, new, x)
 }

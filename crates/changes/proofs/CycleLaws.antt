@@ -1,11 +1,12 @@
 -- Laws of the row change, as the cycle uses them.
 -- Assumes nothing.
-use mathlib.Core.Path.{_≡_, refl, sym, ap, _∙_}
+use mathlib.Core.Path.{_≡_, refl, sym, ap, ap₂, _∙_}
 use mathlib.Core.Bool.{true, false}
 use mathlib.Core.List.{List, [], _∷_}
 use Prim.Native.Nat.{ℕ, zero, suc, _+_, _-_, _≤_, _<_}
 use native.Mathlib.Numerals.{add-one}
 use native.Mathlib.Omega.{arith}
+use lib.Dec.{eqb}
 use lib.IntN.{ℤ}
 use lib.ListN.{length, drop}
 use lib.Seq.{drop-cons}
@@ -17,55 +18,59 @@ use Rattle.rules.specs.declared.Refusal.the-variants.{TooDeep, Restricted}
 use Rattle.rules.specs.declared.Verdict.{Verdict}
 use Rattle.rules.specs.declared.Verdict.the-variants.{Pass, Fail}
 use Rattle.rules.specs.Lists.{upFrom}
-use Rattle.rules.specs.Rows.{Row, image}
-use Rattle.rules.specs.Keys.{fires}
+use Rattle.rules.specs.Rows.{Row, image, live}
+use Rattle.rules.specs.Keys.{fullKey, fires}
 use Rattle.rules.specs.Book.{Work, write}
-use Rattle.rules.specs.Change.{Change, go, then, given, admits, admitted, actionOf, taken, rowTurn, children, keyTurn, actions, change}
+use Rattle.rules.specs.Change.{Change, go, then, given, admits, admitted, actionOf, taken, keyTurn, actions, change}
+use Rattle.rules.specs.KeyValues.{keyValues, childHasKey, turnByValues, childrenByValues}
 use Rattle.bridge.specs.Ready.{Placed, resultOf}
+use Rattle.schema.proofs.RangeLaws.{and-left, and-right}
 use Rattle.bridge.proofs.Undo.{spared}
 use Rattle.bridge.proofs.TurnLaws.{turns-start, turns-none, turns-past, turns-done, turns-refused}
+use Rattle.bridge.proofs.ValueLaws.{children-values}
 use Rattle.moves.specs.Tally.{TalliedAt}
-use Rattle.change_parts.specs.Turns.{takesAt, actionImage}
+use Rattle.change_parts.specs.Turns.{deletesChild, actionImage}
+use Rattle.change_parts.proofs.PartLaws.{cascade-image}
 
 -- a row with its tally is in the area
 pub at-placed : {b : List ℕ} {tally a : List ℤ} {t r : ℕ} → TalliedAt b tally a t r → Placed b a t r
 at-placed h = record { ready = h .tallied .ready; table = h .table; row = h .row }
 
 -- ---- child rows in turn
-module _ (rec : Change) (s : Schema) (new : Row) (k : ForeignKey) (old : Row) where
-  pub rows-start : (n : ℕ) (w : Work) {m : ℕ} → m ≡ n → children rec s new k old (upFrom 0 n) w ≡ children rec s new k old (upFrom 0 (m - 0)) w
-  unfolding children
-  rows-start = turns-start (rowTurn rec s new k old)
+module _ (rec : Change) (s : Schema) (new : Row) (k : ForeignKey) (vs : List ℤ) where
+  pub rows-start : (n : ℕ) (w : Work) {m : ℕ} → m ≡ n → childrenByValues rec s new k vs (upFrom 0 n) w ≡ childrenByValues rec s new k vs (upFrom 0 (m - 0)) w
+  unfolding childrenByValues
+  rows-start = turns-start (turnByValues rec s new k vs)
 
-  pub rows-none : (n j : ℕ) (w : Work) → n ≤ j → children rec s new k old (upFrom j (n - j)) w ≡ resultOf Pass w
-  unfolding children
-  rows-none = turns-none (rowTurn rec s new k old)
+  pub rows-none : (n j : ℕ) (w : Work) → n ≤ j → childrenByValues rec s new k vs (upFrom j (n - j)) w ≡ resultOf Pass w
+  unfolding childrenByValues
+  rows-none = turns-none (turnByValues rec s new k vs)
 
-  row-idle : (j : ℕ) (w : Work) → takesAt k old (w .tabs) j ≡ false → rowTurn rec s new k old j w ≡ go w
-  unfolding rowTurn given takesAt
+  row-idle : (j : ℕ) (w : Work) → childHasKey k vs (w .tabs) j ≡ false → turnByValues rec s new k vs j w ≡ go w
+  unfolding turnByValues given
   row-idle j w e = rw e refl
 
-  row-taken : (j : ℕ) (w : Work) → takesAt k old (w .tabs) j ≡ true → rowTurn rec s new k old j w ≡ taken rec s new (actionOf new k) k j (image (k .child) j (w .tabs)) w
-  unfolding rowTurn given takesAt
+  row-taken : (j : ℕ) (w : Work) → childHasKey k vs (w .tabs) j ≡ true → turnByValues rec s new k vs j w ≡ taken rec s new (actionOf new k) k j (image (k .child) j (w .tabs)) w
+  unfolding turnByValues given
   row-taken j w e = rw e refl
 
-  module _ (n j i : ℕ) (w : Work) (low : j ≤ i) (high : i < n) (idle : (m : ℕ) → j ≤ m → m < i → takesAt k old (w .tabs) m ≡ false) where
-    module _ (on : takesAt k old (w .tabs) i ≡ true) (t : ℕ) (et : t ≡ k .child) (o : Verdict) (v : Work) (e : resultOf o v ≡ taken rec s new (actionOf new k) k i (image t i (w .tabs)) w) where
-      turn-is : rowTurn rec s new k old i w ≡ resultOf o v
+  module _ (n j i : ℕ) (w : Work) (low : j ≤ i) (high : i < n) (idle : (m : ℕ) → j ≤ m → m < i → childHasKey k vs (w .tabs) m ≡ false) where
+    module _ (on : childHasKey k vs (w .tabs) i ≡ true) (t : ℕ) (et : t ≡ k .child) (o : Verdict) (v : Work) (e : resultOf o v ≡ taken rec s new (actionOf new k) k i (image t i (w .tabs)) w) where
+      turn-is : turnByValues rec s new k vs i w ≡ resultOf o v
       turn-is = row-taken i w on ∙ ap (λ (u : ℕ). taken rec s new (actionOf new k) k i (image u i (w .tabs)) w) (sym et) ∙ sym e
 
-      pub rows-done : o ≡ Pass → children rec s new k old (upFrom j (n - j)) w ≡ children rec s new k old (upFrom (i + 1) (n - (i + 1))) v
-      unfolding children
-      rows-done = turns-done (rowTurn rec s new k old) n j i w low (omega (arith, high)) (λ m p q. row-idle m w (idle m p q)) high o v turn-is
+      pub rows-done : o ≡ Pass → childrenByValues rec s new k vs (upFrom j (n - j)) w ≡ childrenByValues rec s new k vs (upFrom (i + 1) (n - (i + 1))) v
+      unfolding childrenByValues
+      rows-done = turns-done (turnByValues rec s new k vs) n j i w low (omega (arith, high)) (λ m p q. row-idle m w (idle m p q)) high o v turn-is
 
-      pub rows-refused : {c : Refusal} → o ≡ Fail c → children rec s new k old (upFrom j (n - j)) w ≡ resultOf (Fail c) v
-      unfolding children
-      rows-refused = turns-refused (rowTurn rec s new k old) n j i w low (omega (arith, high)) (λ m p q. row-idle m w (idle m p q)) high o v turn-is
+      pub rows-refused : {c : Refusal} → o ≡ Fail c → childrenByValues rec s new k vs (upFrom j (n - j)) w ≡ resultOf (Fail c) v
+      unfolding childrenByValues
+      rows-refused = turns-refused (turnByValues rec s new k vs) n j i w low (omega (arith, high)) (λ m p q. row-idle m w (idle m p q)) high o v turn-is
 
   -- none of the rest is taken
-  pub rows-past : (n j i : ℕ) (w : Work) → j ≤ i → i ≤ n → n ≤ i → ((m : ℕ) → j ≤ m → m < i → takesAt k old (w .tabs) m ≡ false) → children rec s new k old (upFrom j (n - j)) w ≡ resultOf Pass w
-  unfolding children
-  rows-past n j i w l h p idle = turns-past (rowTurn rec s new k old) n j i w l h (λ m a b. row-idle m w (idle m a b)) p
+  pub rows-past : (n j i : ℕ) (w : Work) → j ≤ i → i ≤ n → n ≤ i → ((m : ℕ) → j ≤ m → m < i → childHasKey k vs (w .tabs) m ≡ false) → childrenByValues rec s new k vs (upFrom j (n - j)) w ≡ resultOf Pass w
+  unfolding childrenByValues
+  rows-past n j i w l h p idle = turns-past (turnByValues rec s new k vs) n j i w l h (λ m a b. row-idle m w (idle m a b)) p
 
 -- ---- keys in turn
 drop-past : {A : Type 0} (k : ℕ) (l : List A) → length l ≤ k → drop k l ≡ []
@@ -98,9 +103,14 @@ module _ (rec : Change) (s : Schema) (new : Row) (t : ℕ) (old : Row) (k : Fore
   unfolding keyTurn given resultOf
   key-off e = sym (rw e refl)
 
-  pub key-on : fires new t old k ≡ true → children rec s new k old (upFrom 0 (tableOf s (k .child) .rows)) w ≡ keyTurn rec s new t old k w
-  unfolding keyTurn given
-  key-on e = sym (rw e refl)
+  module _ (e : fires new t old k ≡ true) where
+    pub old-full : fullKey (k .parentColumns) old ≡ true
+    unfolding fires
+    old-full = and-left (fullKey (k .parentColumns) old) _ (and-right (eqb (k .parent) t) _ e)
+
+    pub key-on : {vs : List ℤ} → vs ≡ keyValues (k .parentColumns) old → childrenByValues rec s new k vs (upFrom 0 (tableOf s (k .child) .rows)) w ≡ keyTurn rec s new t old k w
+    unfolding keyTurn given fullKey
+    key-on v = rw v (sym (rw e (children-values old k (and-right (live old) _ old-full) rec s new (upFrom 0 (tableOf s (k .child) .rows)) w)))
 
 -- ---- a taken row
 module _ (rec : Change) (s : Schema) (new : Row) (k : ForeignKey) (j : ℕ) (x : Row) (w : Work) (a : Action) (ea : a ≡ actionOf new k) where
@@ -113,17 +123,24 @@ module _ (rec : Change) (s : Schema) (new : Row) (k : ForeignKey) (j : ℕ) (x :
   row-restrict e = rw (← ea, e) refl
 
   module _ (t : ℕ) (et : t ≡ k .child) (y : Row) where
-    pub row-null : a ≡ SetNull → y ≡ actionImage SetNull s k new x → rec t j y w ≡ taken rec s new (actionOf new k) k j x w
-    unfolding taken actionImage
-    row-null e g = rw (← ea, e, et, g) refl
+    -- by an action that gives it an image
+    row-acted : (b : Action) → taken rec s new b k j x w ≡ rec (k .child) j (actionImage b s k new x) w → a ≡ b → y ≡ actionImage a s k new x → rec t j y w ≡ taken rec s new (actionOf new k) k j x w
+    row-acted b q e g =
+        ap₂ (λ (u : ℕ) (z : Row). rec u j z w) et (g ∙ ap (λ (c : Action). actionImage c s k new x) e)
+        ∙ sym q
+        ∙ ap (λ (c : Action). taken rec s new c k j x w) (sym e ∙ ea)
 
-    pub row-default : a ≡ SetDefault → y ≡ actionImage SetDefault s k new x → rec t j y w ≡ taken rec s new (actionOf new k) k j x w
-    unfolding taken actionImage
-    row-default e g = rw (← ea, e, et, g) refl
+    pub row-null : a ≡ SetNull → y ≡ actionImage a s k new x → rec t j y w ≡ taken rec s new (actionOf new k) k j x w
+    unfolding taken actionImage deletesChild
+    row-null = row-acted SetNull refl
 
-    pub row-cascade : a ≡ Cascade → y ≡ actionImage Cascade s k new x → rec t j y w ≡ taken rec s new (actionOf new k) k j x w
-    unfolding taken actionImage
-    row-cascade e g = rw (← ea, e, et, g) refl
+    pub row-default : a ≡ SetDefault → y ≡ actionImage a s k new x → rec t j y w ≡ taken rec s new (actionOf new k) k j x w
+    unfolding taken actionImage deletesChild
+    row-default = row-acted SetDefault refl
+
+    pub row-cascade : a ≡ Cascade → y ≡ actionImage a s k new x → rec t j y w ≡ taken rec s new (actionOf new k) k j x w
+    unfolding taken
+    row-cascade = row-acted Cascade (ap (λ (z : Row). rec (k .child) j z w) (cascade-image s k new x))
 
 -- ---- a change
 module _ (s : Schema) (t r : ℕ) (new : Row) (w : Work) (left : ℕ) where

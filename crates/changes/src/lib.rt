@@ -7,10 +7,13 @@ ghost use Rattle.schema.specs.Fields.{schemaOf};
 ghost use Rattle.rules.specs.Lists.{upFrom};
 ghost use Rattle.rules.specs.Rows;
 ghost use Rattle.rules.specs.Change;
+ghost use Rattle.rules.specs.KeyValues.{childrenByValues};
 ghost use Rattle.bridge.specs.Fit.{workOf};
 ghost use Rattle.bridge.specs.Ready.{resultOf};
 ghost use Rattle.moves.specs.Tally.{Follows, Tallied, TalliedAt};
-ghost use Rattle.change_parts.specs.Turns.{ChildAt};
+ghost use Rattle.rows.specs.Sought.{soughtValues};
+ghost use Rattle.change_parts.specs.Turns.{FollowersOf};
+use change_parts::Followers;
 use rules::Refusal;
 use rules::Verdict;
 use schema::Action;
@@ -85,31 +88,33 @@ fn key_turn(
     if !rows::fires(schema, t, old, new, k) {
         return Verdict::Pass;
     }
-    row_walk(schema, area, tally, k, old, new, left)
+    let f = change_parts::followers_of(schema, k, old, new);
+    row_walk(schema, area, tally, k, f, new, left)
 }
 
-// The action of foreign key k on its child rows, by rising number.
+// The action of foreign key k on its child rows, by rising number. Of the old row it knows the values that were fetched.
 fn row_walk(
     schema: &[u8],
     area: &mut [i64],
     tally: &mut [i64; 32],
     k: usize,
-    old: [i64; 9],
+    f: Followers,
     new: [i64; 9],
     left: usize,
 ) -> Verdict
-    requires { ⌜ Tallied (now schema) (now tally) (now area) × (k < length (schemaOf (now schema) .keys)) ⌝ }
-    ensures { λ o. ⌜ (resultOf o (workOf (schemaOf (now (schema .entry))) (now (area .exit))) ≡ Change.children (Change.change left (schemaOf (now (schema .entry)))) (schemaOf (now (schema .entry))) new (keyOf (schemaOf (now (schema .entry))) k) old (upFrom 0 (tableOf (schemaOf (now (schema .entry))) (keyOf (schemaOf (now (schema .entry))) k .child) .rows)) (workOf (schemaOf (now (schema .entry))) (now (area .entry)))) × Follows (schemaOf (now (schema .entry))) (now (tally .entry)) (now (area .entry)) (now (tally .exit)) (now (area .exit)) ⌝ }
+    requires { ⌜ Tallied (now schema) (now tally) (now area) × FollowersOf (now schema) k new f ⌝ }
+    ensures { λ o. ⌜ (resultOf o (workOf (schemaOf (now (schema .entry))) (now (area .exit))) ≡ childrenByValues (Change.change left (schemaOf (now (schema .entry)))) (schemaOf (now (schema .entry))) new (keyOf (schemaOf (now (schema .entry))) k) (soughtValues (f .key)) (upFrom 0 (tableOf (schemaOf (now (schema .entry))) (keyOf (schemaOf (now (schema .entry))) k .child) .rows)) (workOf (schemaOf (now (schema .entry))) (now (area .entry)))) × Follows (schemaOf (now (schema .entry))) (now (tally .entry)) (now (area .entry)) (now (tally .exit)) (now (area .exit)) ⌝ }
 {
-    let t = fields::child(schema, k);
-    let n = fields::rows(schema, t);
+    let rows = f.rows;
+    let key = f.key;
+    let n = rows.count;
     let mut j = 0;
     while j < n {
-        let i = change_parts::next_taken(schema, area, k, old, j);
+        let i = scans::first_with_key(area, rows, key, j);
         if n <= i {
             return Verdict::Pass;
         }
-        match row_turn(schema, area, tally, k, t, new, i, left) {
+        match row_turn(schema, area, tally, k, f, new, i, left) {
             Verdict::Pass => {}
             Verdict::Fail(c) => {
                 return Verdict::Fail(c);
@@ -120,34 +125,35 @@ fn row_walk(
     Verdict::Pass
 }
 
-// The action of foreign key k on row j of its child table, t, which is taken.
+// The action of foreign key k on row j of its child rows, which is taken.
 fn row_turn(
     schema: &[u8],
     area: &mut [i64],
     tally: &mut [i64; 32],
     k: usize,
-    t: usize,
+    f: Followers,
     new: [i64; 9],
     j: usize,
     left: usize,
 ) -> Verdict
-    requires { ⌜ TalliedAt (now schema) (now tally) (now area) t j × ChildAt (now schema) k t ⌝ }
-    ensures { λ o. ⌜ (resultOf o (workOf (schemaOf (now (schema .entry))) (now (area .exit))) ≡ Change.taken (Change.change left (schemaOf (now (schema .entry)))) (schemaOf (now (schema .entry))) new (Change.actionOf new (keyOf (schemaOf (now (schema .entry))) k)) (keyOf (schemaOf (now (schema .entry))) k) j (Rows.image t j (workOf (schemaOf (now (schema .entry))) (now (area .entry)) .tabs)) (workOf (schemaOf (now (schema .entry))) (now (area .entry)))) × Follows (schemaOf (now (schema .entry))) (now (tally .entry)) (now (area .entry)) (now (tally .exit)) (now (area .exit)) ⌝ }
+    requires { ⌜ TalliedAt (now schema) (now tally) (now area) (f .table) j × FollowersOf (now schema) k new f ⌝ }
+    ensures { λ o. ⌜ (resultOf o (workOf (schemaOf (now (schema .entry))) (now (area .exit))) ≡ Change.taken (Change.change left (schemaOf (now (schema .entry)))) (schemaOf (now (schema .entry))) new (Change.actionOf new (keyOf (schemaOf (now (schema .entry))) k)) (keyOf (schemaOf (now (schema .entry))) k) j (Rows.image (f .table) j (workOf (schemaOf (now (schema .entry))) (now (area .entry)) .tabs)) (workOf (schemaOf (now (schema .entry))) (now (area .entry)))) × Follows (schemaOf (now (schema .entry))) (now (tally .entry)) (now (area .entry)) (now (tally .exit)) (now (area .exit)) ⌝ }
 {
-    match change_parts::action_of(schema, k, new) {
+    let action = f.action;
+    match action {
         Action::NoAction => Verdict::Pass,
         Action::Restrict => Verdict::Fail(Refusal::Restricted),
         Action::SetNull => {
-            let y = change_parts::child_after(schema, area, k, t, j, new, Action::SetNull);
-            row_change(schema, area, tally, t, j, y, left)
+            let y = change_parts::child_after(schema, area, k, f, j, new);
+            row_change(schema, area, tally, f.table, j, y, left)
         }
         Action::SetDefault => {
-            let y = change_parts::child_after(schema, area, k, t, j, new, Action::SetDefault);
-            row_change(schema, area, tally, t, j, y, left)
+            let y = change_parts::child_after(schema, area, k, f, j, new);
+            row_change(schema, area, tally, f.table, j, y, left)
         }
         Action::Cascade => {
-            let y = change_parts::child_after(schema, area, k, t, j, new, Action::Cascade);
-            row_change(schema, area, tally, t, j, y, left)
+            let y = change_parts::child_after(schema, area, k, f, j, new);
+            row_change(schema, area, tally, f.table, j, y, left)
         }
     }
 }

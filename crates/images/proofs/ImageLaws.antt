@@ -7,7 +7,7 @@ use Prim.Native.Nat.{ℕ, suc, _+_, _%_, _^_, _≤_, _<_}
 use native.Mathlib.Numerals.{add-one}
 use native.Mathlib.Omega.{arith}
 use lib.IntN.{ℤ, pos}
-use lib.ListN.{length, getD, set, take, drop, replicate, length-drop, drop-of-length-le}
+use lib.ListN.{length, getD, set, take, drop, length-drop, drop-of-length-le}
 use lib.Seq.{drop-cons, drop-drop, take-all, take-suc-set, drop-set-lt}
 use Rattle.schema.specs.declared.Action.{Action}
 use Rattle.schema.specs.declared.Action.the-variants.{NoAction, Restrict, SetNull, SetDefault, Cascade}
@@ -16,8 +16,8 @@ use Rattle.schema.specs.Bytes.{bit}
 use Rattle.schema.specs.Records.{Table, ForeignKey, Schema, tableOf}
 use Rattle.rules.specs.Lists.{𝟘, padded}
 use Rattle.rules.specs.Values.{natOf}
-use Rattle.rules.specs.Rows.{Row, deletedImage, live, nullAt, valueAt, maskOf, held, liveImage, normal}
-use Rattle.rules.specs.Change.{flag, setCell, fillsNull, filler, refilled, childImage, cascaded}
+use Rattle.rules.specs.Rows.{Row, live, nullAt, valueAt, maskOf, held, liveImage, normal}
+use Rattle.rules.specs.Change.{flag, setCell, fillsNull, filler, refilled, childImage}
 use Rattle.rules.specs.Found.{rowSet}
 use Rattle.rows.proofs.CellLaws.{columns-step, columns-end}
 
@@ -139,12 +139,3 @@ pub child-is : (a : Action) (s : Schema) (k : ForeignKey) (new x : Row) {t c : �
     → normal c (refilled a (tableOf s t) new cs ps x) ≡ childImage a s k new x
 unfolding childImage
 child-is a s k new x e f g h = rw (h, f, g, e)
-
-module _ (s : Schema) (k : ForeignKey) (new x : Row) where
-  pub cascade-live : live new ≡ true → childImage Cascade s k new x ≡ cascaded s k new x
-  unfolding cascaded
-  cascade-live e = sym (rw (e, cascaded))
-
-  pub cascade-deleted : live new ≡ false → replicate 9 𝟘 ≡ cascaded s k new x
-  unfolding cascaded deletedImage
-  cascade-deleted e = sym (rw (e, cascaded))

@@ -179,10 +179,11 @@ fn refilled(
     x
 }
 
-// The image that an action of foreign key k gives a child row, its columns given; `new` is the parent row's new image.
+// The image that an action of foreign key k gives a row of its child table, t, its columns given; `new` is the parent row's new image.
 pub fn child_image(
     schema: &[u8],
     k: usize,
+    t: usize,
     action: Action,
     n: usize,
     cs: [usize; 8],
@@ -190,29 +191,9 @@ pub fn child_image(
     new: [i64; 9],
     image: [i64; 9],
 ) -> [i64; 9]
-    requires { ⌜ KeyColumns (now schema) k n cs ps ⌝ }
+    requires { ⌜ KeyColumns (now schema) k n cs ps × (t ≡ keyOf (schemaOf (now schema)) k .child) ⌝ }
     ensures { λ x. ⌜ x ≡ Change.childImage action (schemaOf (now (schema .entry))) (keyOf (schemaOf (now (schema .entry))) k) new image ⌝ }
 {
-    let t = fields::child(schema, k);
     let x = refilled(schema, t, action, new, n, cs, ps, image);
     normal(fields::columns(schema, t), x)
-}
-
-// The image that CASCADE of foreign key k gives a child row: with the new key, or deleted.
-pub fn cascade_image(
-    schema: &[u8],
-    k: usize,
-    n: usize,
-    cs: [usize; 8],
-    ps: [usize; 8],
-    new: [i64; 9],
-    image: [i64; 9],
-) -> [i64; 9]
-    requires { ⌜ KeyColumns (now schema) k n cs ps ⌝ }
-    ensures { λ x. ⌜ x ≡ Change.cascaded (schemaOf (now (schema .entry))) (keyOf (schemaOf (now (schema .entry))) k) new image ⌝ }
-{
-    if rows::image_live(new) {
-        return child_image(schema, k, Action::Cascade, n, cs, ps, new, image);
-    }
-    [0i64; 9]
 }

@@ -1,46 +1,70 @@
-use mathlib.Core.Path.{ap, _∙_}
+use mathlib.Core.Path.{sym, ap, _∙_}
+use native.Mathlib.Omega.{arith}
+use borrow.Author.Needs.{needs}
 use Rattle.schema.specs.Fields.{schemaOf}
 use Rattle.schema.specs.Records.{keyOf}
-use Rattle.rows.proofs.TableLaws.{key-columns}
-use Rattle.change_parts.specs.Turns.{actionImage}
-use borrow.Author.Needs.{needs}
+use Rattle.rules.specs.Change.{childImage}
+use Rattle.change_parts.proofs.FollowerLaws.{child-stands, child-image}
+use Rattle.change_parts.proofs.PartLaws.{image-deleted, image-kept}
 use Rattle.change_parts.proofs.child_after.Statement.{statement}
 use Rattle.change_parts.proofs.child_after.Tie as tie
 
-image-of-requires : tie.Need-image-of-requires
-image-of-requires c κs = search needs
-
-width-requires : tie.Need-width-requires
-width-requires c κs = search needs
-
-child-columns-requires : tie.Need-child-columns-requires
-child-columns-requires c κs = search needs
-
-parent-columns-requires : tie.Need-parent-columns-requires
-parent-columns-requires c κs = search needs
-
-acted-requires : tie.Need-acted-requires
-acted-requires c κs =
-    let width = c .before .before .width in
-    let s = c .before .before .before .before .before in
-    let child-columns = c .before .child-columns in
-    let parent-columns = c .parent-columns in
-    key-columns (s .args .schema .now) (s .pre .1 .accepted) (s .args .k) (s .pre .1 .key) (width .ensures .0) (parent-columns .result) (parent-columns .ensures) (child-columns .result) (child-columns .ensures)
+deletes-child-requires : tie.Need-deletes-child-requires
+deletes-child-requires c κs = search needs
 
 returns : tie.Need-returns
 returns c =
-    let s = c .before .before .before .before .before .before in
-    let sc = schemaOf (s .args .schema .now) in
-    let image-of = c .before .before .before .before .image-of in
-    c .acted .ensures ∙ ap (actionImage (s .args .action) sc (keyOf sc (s .args .k)) (s .args .new)) (image-of .ensures)
+    let a = c .before .before .before .args in
+    let s = schemaOf (a .schema .now) in
+    image-deleted s (keyOf s (a .k)) (a .new) _ (a .f .action) (sym (c .before .deletes-child .ensures) ∙ c .if1 .taken)
+
+mul-image-at : tie.Need-mul-image-at
+mul-image-at c =
+    let s = c .before .before .before .before in
+    let a = s .args in
+    let stands = child-stands (a .schema .now) (a .area .now) (s .pre .0 .ready) (a .k) (a .new) (a .f) (s .pre .1) (a .j) (s .pre .0 .row) in
+    omega (arith, stands .within)
+
+add-image-at : tie.Need-add-image-at
+add-image-at c =
+    let s = c .before .before .before .before .before in
+    let a = s .args in
+    let stands = child-stands (a .schema .now) (a .area .now) (s .pre .0 .ready) (a .k) (a .new) (a .f) (s .pre .1) (a .j) (s .pre .0 .row) in
+    omega (arith, stands .within)
+
+image-at-requires : tie.Need-image-at-requires
+image-at-requires c κs =
+    let s = c .before .before .before .before .before in
+    let a = s .args in
+    let stands = child-stands (a .schema .now) (a .area .now) (s .pre .0 .ready) (a .k) (a .new) (a .f) (s .pre .1) (a .j) (s .pre .0 .row) in
+    (omega (arith, stands .within), stands .narrow)
+
+child-image-requires : tie.Need-child-image-requires
+child-image-requires c κs =
+    let f = c .before .before .before .before .before .before .before .before .before .pre .1 in
+    (f .columns, f .table-is)
+
+returns-2 : tie.Need-returns-2
+returns-2 c =
+    let s = c .before .before .before .before .before .before .before .before .before .before in
+    let a = s .args in
+    let sc = schemaOf (a .schema .now) in
+    let key = keyOf sc (a .k) in
+    let image-at = c .before .before .before .before .image-at in
+    let deletes = c .before .before .before .before .before .before .before .before .deletes-child in
+    let x = child-image (a .schema .now) (a .area .now) (s .pre .0 .ready) (a .k) (a .new) (a .f) (s .pre .1) (a .j) (s .pre .0 .row) (image-at .ensures) in
+    c .child-image .ensures
+    ∙ ap (childImage (a .f .action) sc key (a .new)) x
+    ∙ image-kept sc key (a .new) _ (a .f .action) (sym (deletes .ensures) ∙ c .before .before .before .before .before .before .before .if1 .left)
 
 pub child-after-spec : {M : Type 1} → statement M
 child-after-spec =
     tie.close
     (tie.spec
-    image-of-requires
-    width-requires
-    child-columns-requires
-    parent-columns-requires
-    acted-requires
-    returns)
+    deletes-child-requires
+    returns
+    mul-image-at
+    add-image-at
+    image-at-requires
+    child-image-requires
+    returns-2)

@@ -1,4 +1,4 @@
-use mathlib.Core.Path.{_≡_, refl, sym, ap, ap₂, _∙_}
+use mathlib.Core.Path.{_≡_, refl, sym, ap₂, _∙_}
 use mathlib.Core.List.{List}
 use Prim.Native.Nat.{_+_, _-_, _*_, _≤_, ℕ, _<_}
 use native.Mathlib.Omega.{arith}
@@ -11,10 +11,13 @@ use Rattle.schema.specs.Records.{tableOf, keyOf}
 use Rattle.rules.specs.Lists.{upFrom}
 use Rattle.rules.specs.Rows.{image}
 use Rattle.rules.specs.Book.{Work}
-use Rattle.rules.specs.Change.{children, actions, change}
+use Rattle.rules.specs.Change.{actions, change}
+use Rattle.rules.specs.KeyValues.{childrenByValues}
 use Rattle.bridge.specs.Fit.{workOf}
 use Rattle.moves.specs.Tally.{Follows}
 use Rattle.moves.proofs.TallyLaws.{follows-refl, follows-trans, tallied-after}
+use Rattle.rows.specs.Sought.{soughtValues}
+use Rattle.change_parts.proofs.FollowerLaws.{rows-many, search-ready, found-first, table-there}
 use Rattle.changes.proofs.CycleLaws as law
 use borrow.Fn.Kinds.{In}
 use borrow.Fn.PlainCycle.{Measures, is, falls, and}
@@ -33,15 +36,13 @@ use Rattle.changes.proofs.+key_turn+key_walk+row_change+row_turn+row_wa
 use Rattle.changes.proofs.row_walk.Reads as row-walk
 use Rattle.changes.proofs.row_walk.Kinds as row-walk-kinds
 use Rattle.changes.proofs.+key_turn+key_walk+row_change+row_turn+row_walk.Lts-row_walk as row-walk-lts
-use Rattle.change_parts.proofs.action_of.Reads as action-of-reads
 use Rattle.change_parts.proofs.admits.Reads as admits-reads
 use Rattle.change_parts.proofs.child_after.Reads as child-after-reads
-use Rattle.change_parts.proofs.next_taken.Reads as next-taken-reads
-use Rattle.tally.proofs.write_tallied.Reads as write-tallied-reads
-use Rattle.fields.proofs.child.Reads as child-reads
+use Rattle.change_parts.proofs.followers_of.Reads as followers-of-reads
 use Rattle.fields.proofs.key_count.Reads as key-count-reads
-use Rattle.fields.proofs.rows.Reads as rows-reads
 use Rattle.rows.proofs.fires.Reads as fires-reads
+use Rattle.scans.proofs.first_with_key.Reads as first-with-key-reads
+use Rattle.tally.proofs.write_tallied.Reads as write-tallied-reads
 use Rattle.changes.proofs.+key_turn+key_walk+row_change+row_turn+row_walk.{statement}
 use Rattle.changes.proofs.+key_turn+key_walk+row_change+row_turn+row_walk.Tie.{close}
 
@@ -99,6 +100,8 @@ row-walk-below t =
 key-turn-fires-requires : (t : ℕ) → key-turn-lts.Need-fires-requires (
   fires-reads.Asked,
   fires-reads.Learnt,
+  followers-of-reads.Asked,
+  followers-of-reads.Learnt,
   row-walk-below t,
   row-walk.Post,
 ) (key-turn-at t) key-turn.Post
@@ -107,22 +110,38 @@ key-turn-fires-requires t c κs = (c .before .pre .1 .0 .ready .accepted, c .bef
 key-turn-returns : (t : ℕ) → key-turn-lts.Need-returns (
   fires-reads.Asked,
   fires-reads.Learnt,
+  followers-of-reads.Asked,
+  followers-of-reads.Learnt,
   row-walk-below t,
   row-walk.Post,
 ) (key-turn-at t) key-turn.Post
 key-turn-returns t c = (law.key-off _ _ _ _ _ _ _ (sym (c .before .fires .ensures) ∙ not-true _ (c .if1 .taken)), follows-refl (c .before .before .before .pre .1 .0 .ready .fit))
 
-key-turn-row-walk-requires : (t : ℕ) → key-turn-lts.Need-row-walk-requires (
+key-turn-followers-of-requires : (t : ℕ) → key-turn-lts.Need-followers-of-requires (
   fires-reads.Asked,
   fires-reads.Learnt,
+  followers-of-reads.Asked,
+  followers-of-reads.Learnt,
   row-walk-below t,
   row-walk.Post,
 ) (key-turn-at t) key-turn.Post
-key-turn-row-walk-requires t c κs = (search needs, (c .before .before .before .before .before .pre .1 .0, c .before .before .before .before .before .pre .1 .1))
+key-turn-followers-of-requires t c κs = ((c .before .before .before .pre .1 .0 .ready .accepted, c .before .before .before .pre .1 .1), law.old-full (change 0 (schemaOf (c .before .before .before .args .schema .now))) (schemaOf (c .before .before .before .args .schema .now)) _ _ _ _ (workOf (schemaOf (c .before .before .before .args .schema .now)) (c .before .before .before .args .area .now)) (sym (c .before .fires .ensures) ∙ not-false _ (c .if1 .left)))
+
+key-turn-row-walk-requires : (t : ℕ) → key-turn-lts.Need-row-walk-requires (
+  fires-reads.Asked,
+  fires-reads.Learnt,
+  followers-of-reads.Asked,
+  followers-of-reads.Learnt,
+  row-walk-below t,
+  row-walk.Post,
+) (key-turn-at t) key-turn.Post
+key-turn-row-walk-requires t c κs = (search needs, (c .before .before .before .before .before .before .pre .1 .0, c .before .before .followers-of .ensures .0))
 
 key-turn-same-length : (t : ℕ) → key-turn-lts.Need-same-length (
   fires-reads.Asked,
   fires-reads.Learnt,
+  followers-of-reads.Asked,
+  followers-of-reads.Learnt,
   row-walk-below t,
   row-walk.Post,
 ) (key-turn-at t) key-turn.Post
@@ -131,14 +150,12 @@ key-turn-same-length t c = search needs
 key-turn-returns-2 : (t : ℕ) → key-turn-lts.Need-returns-2 (
   fires-reads.Asked,
   fires-reads.Learnt,
+  followers-of-reads.Asked,
+  followers-of-reads.Learnt,
   row-walk-below t,
   row-walk.Post,
 ) (key-turn-at t) key-turn.Post
-key-turn-returns-2 t c =
-    let fires = c .before .before .before .before .before .fires in
-    let if1 = c .before .before .before .before .if1 in
-    let row-walk = c .before .row-walk in
-    (row-walk .ensures .0 ∙ law.key-on _ _ _ _ _ _ _ (sym (fires .ensures) ∙ not-false _ (if1 .left)), row-walk .ensures .1)
+key-turn-returns-2 t c = (c .before .row-walk .ensures .0 ∙ law.key-on _ _ _ _ _ _ _ (sym (c .before .before .before .before .before .before .fires .ensures) ∙ not-false _ (c .before .before .before .before .before .if1 .left)) (c .before .before .before .before .followers-of .ensures .1), c .before .row-walk .ensures .1)
 
 abbrev key-walk-Inv-loop : key-walk-lts.InvT-loop
 key-walk-Inv-loop schema area₀ tally₀ t old new left n k₀ area tally k = (k ≤ n) × ((length area ≡ length area₀) × (Follows (schemaOf schema) tally₀ area₀ tally area × (actions (change left (schemaOf schema)) (schemaOf schema) new t old ((schemaOf schema) .keys) (workOf (schemaOf schema) area₀) ≡ actions (change left (schemaOf schema)) (schemaOf schema) new t old (drop k ((schemaOf schema) .keys)) (workOf (schemaOf schema) area))))
@@ -406,19 +423,7 @@ row-change-returns-3 t c =
       follows-trans (write-tallied .ensures .1 .1) (key-walk .ensures .1),
     )
 
-row-turn-action-of-requires : (t : ℕ) → row-turn-lts.Need-action-of-requires (
-  action-of-reads.Asked,
-  action-of-reads.Learnt,
-  child-after-reads.Asked,
-  child-after-reads.Learnt,
-  row-change-below t,
-  row-change.Post,
-) (row-turn-at t) row-turn.Post
-row-turn-action-of-requires t c κs = (c .before .pre .1 .1 .accepted, c .before .pre .1 .1 .key)
-
 row-turn-enum-told : (t : ℕ) → row-turn-lts.Need-enum-told (
-  action-of-reads.Asked,
-  action-of-reads.Learnt,
   child-after-reads.Asked,
   child-after-reads.Learnt,
   row-change-below t,
@@ -427,8 +432,6 @@ row-turn-enum-told : (t : ℕ) → row-turn-lts.Need-enum-told (
 row-turn-enum-told t c = search needs
 
 row-turn-enum-told-2 : (t : ℕ) → row-turn-lts.Need-enum-told-2 (
-  action-of-reads.Asked,
-  action-of-reads.Learnt,
   child-after-reads.Asked,
   child-after-reads.Learnt,
   row-change-below t,
@@ -437,8 +440,6 @@ row-turn-enum-told-2 : (t : ℕ) → row-turn-lts.Need-enum-told-2 (
 row-turn-enum-told-2 t c = search needs
 
 row-turn-enum-told-3 : (t : ℕ) → row-turn-lts.Need-enum-told-3 (
-  action-of-reads.Asked,
-  action-of-reads.Learnt,
   child-after-reads.Asked,
   child-after-reads.Learnt,
   row-change-below t,
@@ -447,28 +448,22 @@ row-turn-enum-told-3 : (t : ℕ) → row-turn-lts.Need-enum-told-3 (
 row-turn-enum-told-3 t c = search needs
 
 row-turn-child-after-requires : (t : ℕ) → row-turn-lts.Need-child-after-requires (
-  action-of-reads.Asked,
-  action-of-reads.Learnt,
   child-after-reads.Asked,
   child-after-reads.Learnt,
   row-change-below t,
   row-change.Post,
 ) (row-turn-at t) row-turn.Post
-row-turn-child-after-requires t c κs = (law.at-placed (c .before .before .before .before .before .pre .1 .0), c .before .before .before .before .before .pre .1 .1)
+row-turn-child-after-requires t c κs = (law.at-placed (c .before .before .before .before .pre .1 .0), c .before .before .before .before .pre .1 .1)
 
 row-turn-row-change-requires : (t : ℕ) → row-turn-lts.Need-row-change-requires (
-  action-of-reads.Asked,
-  action-of-reads.Learnt,
   child-after-reads.Asked,
   child-after-reads.Learnt,
   row-change-below t,
   row-change.Post,
 ) (row-turn-at t) row-turn.Post
-row-turn-row-change-requires t c κs = (search needs, c .before .before .before .before .before .before .before .before .pre .1 .0)
+row-turn-row-change-requires t c κs = (search needs, c .before .before .before .before .before .before .before .pre .1 .0)
 
 row-turn-enum-told-4 : (t : ℕ) → row-turn-lts.Need-enum-told-4 (
-  action-of-reads.Asked,
-  action-of-reads.Learnt,
   child-after-reads.Asked,
   child-after-reads.Learnt,
   row-change-below t,
@@ -477,28 +472,22 @@ row-turn-enum-told-4 : (t : ℕ) → row-turn-lts.Need-enum-told-4 (
 row-turn-enum-told-4 t c = search needs
 
 row-turn-child-after-requires-2 : (t : ℕ) → row-turn-lts.Need-child-after-requires-2 (
-  action-of-reads.Asked,
-  action-of-reads.Learnt,
   child-after-reads.Asked,
   child-after-reads.Learnt,
   row-change-below t,
   row-change.Post,
 ) (row-turn-at t) row-turn.Post
-row-turn-child-after-requires-2 t c κs = (law.at-placed (c .before .before .before .before .before .pre .1 .0), c .before .before .before .before .before .pre .1 .1)
+row-turn-child-after-requires-2 t c κs = (law.at-placed (c .before .before .before .before .pre .1 .0), c .before .before .before .before .pre .1 .1)
 
 row-turn-row-change-requires-2 : (t : ℕ) → row-turn-lts.Need-row-change-requires-2 (
-  action-of-reads.Asked,
-  action-of-reads.Learnt,
   child-after-reads.Asked,
   child-after-reads.Learnt,
   row-change-below t,
   row-change.Post,
 ) (row-turn-at t) row-turn.Post
-row-turn-row-change-requires-2 t c κs = (search needs, c .before .before .before .before .before .before .before .before .pre .1 .0)
+row-turn-row-change-requires-2 t c κs = (search needs, c .before .before .before .before .before .before .before .pre .1 .0)
 
 row-turn-enum-told-5 : (t : ℕ) → row-turn-lts.Need-enum-told-5 (
-  action-of-reads.Asked,
-  action-of-reads.Learnt,
   child-after-reads.Asked,
   child-after-reads.Learnt,
   row-change-below t,
@@ -507,49 +496,38 @@ row-turn-enum-told-5 : (t : ℕ) → row-turn-lts.Need-enum-told-5 (
 row-turn-enum-told-5 t c = search needs
 
 row-turn-child-after-requires-3 : (t : ℕ) → row-turn-lts.Need-child-after-requires-3 (
-  action-of-reads.Asked,
-  action-of-reads.Learnt,
   child-after-reads.Asked,
   child-after-reads.Learnt,
   row-change-below t,
   row-change.Post,
 ) (row-turn-at t) row-turn.Post
-row-turn-child-after-requires-3 t c κs = (law.at-placed (c .before .before .before .before .before .pre .1 .0), c .before .before .before .before .before .pre .1 .1)
+row-turn-child-after-requires-3 t c κs = (law.at-placed (c .before .before .before .before .pre .1 .0), c .before .before .before .before .pre .1 .1)
 
 row-turn-row-change-requires-3 : (t : ℕ) → row-turn-lts.Need-row-change-requires-3 (
-  action-of-reads.Asked,
-  action-of-reads.Learnt,
   child-after-reads.Asked,
   child-after-reads.Learnt,
   row-change-below t,
   row-change.Post,
 ) (row-turn-at t) row-turn.Post
-row-turn-row-change-requires-3 t c κs = (search needs, c .before .before .before .before .before .before .before .before .pre .1 .0)
+row-turn-row-change-requires-3 t c κs = (search needs, c .before .before .before .before .before .before .before .pre .1 .0)
 
 row-turn-returns : (t : ℕ) → row-turn-lts.Need-returns (
-  action-of-reads.Asked,
-  action-of-reads.Learnt,
   child-after-reads.Asked,
   child-after-reads.Learnt,
   row-change-below t,
   row-change.Post,
 ) (row-turn-at t) row-turn.Post
-row-turn-returns t c = (law.row-none _ _ _ _ _ _ _ _ (c .before .before .action-of .ensures) (c .enum-told .given .1), follows-refl (c .before .before .before .before .pre .1 .0 .tallied .ready .fit))
+row-turn-returns t c = (law.row-none _ _ _ _ _ _ _ _ (c .before .before .before .pre .1 .1 .action-is) (c .enum-told .given .1), follows-refl (c .before .before .before .pre .1 .0 .tallied .ready .fit))
 
 row-turn-returns-2 : (t : ℕ) → row-turn-lts.Need-returns-2 (
-  action-of-reads.Asked,
-  action-of-reads.Learnt,
   child-after-reads.Asked,
   child-after-reads.Learnt,
   row-change-below t,
   row-change.Post,
 ) (row-turn-at t) row-turn.Post
-row-turn-returns-2 t c =
-    (law.row-restrict _ _ _ _ _ _ _ _ (c .before .before .action-of .ensures) (c .enum-told2 .given .1), follows-refl (c .before .before .before .before .pre .1 .0 .tallied .ready .fit))
+row-turn-returns-2 t c = (law.row-restrict _ _ _ _ _ _ _ _ (c .before .before .before .pre .1 .1 .action-is) (c .enum-told2 .given .1), follows-refl (c .before .before .before .pre .1 .0 .tallied .ready .fit))
 
 row-turn-same-length : (t : ℕ) → row-turn-lts.Need-same-length (
-  action-of-reads.Asked,
-  action-of-reads.Learnt,
   child-after-reads.Asked,
   child-after-reads.Learnt,
   row-change-below t,
@@ -558,26 +536,18 @@ row-turn-same-length : (t : ℕ) → row-turn-lts.Need-same-length (
 row-turn-same-length t c = search needs
 
 row-turn-returns-3 : (t : ℕ) → row-turn-lts.Need-returns-3 (
-  action-of-reads.Asked,
-  action-of-reads.Learnt,
   child-after-reads.Asked,
   child-after-reads.Learnt,
   row-change-below t,
   row-change.Post,
 ) (row-turn-at t) row-turn.Post
 row-turn-returns-3 t c =
-    let action-of = c .before .before .before .before .before .before .before .before .action-of in
-    let enum-told3 = c .before .before .before .before .before .before .enum-told3 in
-    let child-after = c .before .before .before .before .child-after in
-    let row-change = c .before .row-change in
-    let s = c .before .before .before .before .before .before .before .before .before .before in
+    let s = c .before .before .before .before .before .before .before .before .before in
     let a = s .args in
     let sc = schemaOf (a .schema .now) in
-    (row-change .ensures .0 ∙ law.row-null (change (a .left) sc) sc (a .new) (keyOf sc (a .k)) (a .j) (image (a .t) (a .j) (workOf sc (a .area .now) .tabs)) (workOf sc (a .area .now)) _ (action-of .ensures) (a .t) (s .pre .1 .1 .child) _ (enum-told3 .given .1) (child-after .ensures), row-change .ensures .1)
+    (c .before .row-change .ensures .0 ∙ law.row-null (change (a .left) sc) sc (a .new) (keyOf sc (a .k)) (a .j) (image (a .f .table) (a .j) (workOf sc (a .area .now) .tabs)) (workOf sc (a .area .now)) _ (s .pre .1 .1 .action-is) (a .f .table) (s .pre .1 .1 .table-is) _ (c .before .before .before .before .before .before .enum-told3 .given .1) (c .before .before .before .before .child-after .ensures), c .before .row-change .ensures .1)
 
 row-turn-same-length-2 : (t : ℕ) → row-turn-lts.Need-same-length-2 (
-  action-of-reads.Asked,
-  action-of-reads.Learnt,
   child-after-reads.Asked,
   child-after-reads.Learnt,
   row-change-below t,
@@ -586,26 +556,18 @@ row-turn-same-length-2 : (t : ℕ) → row-turn-lts.Need-same-length-2 (
 row-turn-same-length-2 t c = search needs
 
 row-turn-returns-4 : (t : ℕ) → row-turn-lts.Need-returns-4 (
-  action-of-reads.Asked,
-  action-of-reads.Learnt,
   child-after-reads.Asked,
   child-after-reads.Learnt,
   row-change-below t,
   row-change.Post,
 ) (row-turn-at t) row-turn.Post
 row-turn-returns-4 t c =
-    let action-of = c .before .before .before .before .before .before .before .before .action-of in
-    let enum-told4 = c .before .before .before .before .before .before .enum-told4 in
-    let child-after2 = c .before .before .before .before .child-after2 in
-    let row-change2 = c .before .row-change2 in
-    let s = c .before .before .before .before .before .before .before .before .before .before in
+    let s = c .before .before .before .before .before .before .before .before .before in
     let a = s .args in
     let sc = schemaOf (a .schema .now) in
-    (row-change2 .ensures .0 ∙ law.row-default (change (a .left) sc) sc (a .new) (keyOf sc (a .k)) (a .j) (image (a .t) (a .j) (workOf sc (a .area .now) .tabs)) (workOf sc (a .area .now)) _ (action-of .ensures) (a .t) (s .pre .1 .1 .child) _ (enum-told4 .given .1) (child-after2 .ensures), row-change2 .ensures .1)
+    (c .before .row-change2 .ensures .0 ∙ law.row-default (change (a .left) sc) sc (a .new) (keyOf sc (a .k)) (a .j) (image (a .f .table) (a .j) (workOf sc (a .area .now) .tabs)) (workOf sc (a .area .now)) _ (s .pre .1 .1 .action-is) (a .f .table) (s .pre .1 .1 .table-is) _ (c .before .before .before .before .before .before .enum-told4 .given .1) (c .before .before .before .before .child-after2 .ensures), c .before .row-change2 .ensures .1)
 
 row-turn-same-length-3 : (t : ℕ) → row-turn-lts.Need-same-length-3 (
-  action-of-reads.Asked,
-  action-of-reads.Learnt,
   child-after-reads.Asked,
   child-after-reads.Learnt,
   row-change-below t,
@@ -614,60 +576,26 @@ row-turn-same-length-3 : (t : ℕ) → row-turn-lts.Need-same-length-3 (
 row-turn-same-length-3 t c = search needs
 
 row-turn-returns-5 : (t : ℕ) → row-turn-lts.Need-returns-5 (
-  action-of-reads.Asked,
-  action-of-reads.Learnt,
   child-after-reads.Asked,
   child-after-reads.Learnt,
   row-change-below t,
   row-change.Post,
 ) (row-turn-at t) row-turn.Post
 row-turn-returns-5 t c =
-    let action-of = c .before .before .before .before .before .before .before .before .action-of in
-    let enum-told5 = c .before .before .before .before .before .before .enum-told5 in
-    let child-after3 = c .before .before .before .before .child-after3 in
-    let row-change3 = c .before .row-change3 in
-    let s = c .before .before .before .before .before .before .before .before .before .before in
+    let s = c .before .before .before .before .before .before .before .before .before in
     let a = s .args in
     let sc = schemaOf (a .schema .now) in
-    (row-change3 .ensures .0 ∙ law.row-cascade (change (a .left) sc) sc (a .new) (keyOf sc (a .k)) (a .j) (image (a .t) (a .j) (workOf sc (a .area .now) .tabs)) (workOf sc (a .area .now)) _ (action-of .ensures) (a .t) (s .pre .1 .1 .child) _ (enum-told5 .given .1) (child-after3 .ensures), row-change3 .ensures .1)
+    (c .before .row-change3 .ensures .0 ∙ law.row-cascade (change (a .left) sc) sc (a .new) (keyOf sc (a .k)) (a .j) (image (a .f .table) (a .j) (workOf sc (a .area .now) .tabs)) (workOf sc (a .area .now)) _ (s .pre .1 .1 .action-is) (a .f .table) (s .pre .1 .1 .table-is) _ (c .before .before .before .before .before .before .enum-told5 .given .1) (c .before .before .before .before .child-after3 .ensures), c .before .row-change3 .ensures .1)
 
 abbrev row-walk-Inv-loop : row-walk-lts.InvT-loop
-row-walk-Inv-loop schema area₀ tally₀ k old new left t n j₀ area tally j = (j ≤ n) × ((length area ≡ length area₀) × (Follows (schemaOf schema) tally₀ area₀ tally area × (children (change left (schemaOf schema)) (schemaOf schema) new (keyOf (schemaOf schema) k) old (upFrom 0 (tableOf (schemaOf schema) (keyOf (schemaOf schema) k .child) .rows)) (workOf (schemaOf schema) area₀) ≡ children (change left (schemaOf schema)) (schemaOf schema) new (keyOf (schemaOf schema) k) old (upFrom j (n - j)) (workOf (schemaOf schema) area))))
+row-walk-Inv-loop schema area₀ tally₀ k f new left rows key n j₀ area tally j = (j ≤ n) × ((length area ≡ length area₀) × (Follows (schemaOf schema) tally₀ area₀ tally area × (childrenByValues (change left (schemaOf schema)) (schemaOf schema) new (keyOf (schemaOf schema) k) (soughtValues (f .key)) (upFrom 0 (tableOf (schemaOf schema) (keyOf (schemaOf schema) k .child) .rows)) (workOf (schemaOf schema) area₀) ≡ childrenByValues (change left (schemaOf schema)) (schemaOf schema) new (keyOf (schemaOf schema) k) (soughtValues (f .key)) (upFrom j (n - j)) (workOf (schemaOf schema) area))))
 
 abbrev row-walk-μ-loop : row-walk-lts.MeasureT-loop
-row-walk-μ-loop schema area₀ tally₀ k old new left t n j₀ area tally j = n - j
-
-row-walk-child-requires : (t : ℕ) → row-walk-lts.Need-child-requires (
-  child-reads.Asked,
-  child-reads.Learnt,
-  rows-reads.Asked,
-  rows-reads.Learnt,
-  next-taken-reads.Asked,
-  next-taken-reads.Learnt,
-  row-turn-below t,
-  row-turn.Post,
-) (row-walk-at t) row-walk.Post row-walk-Inv-loop row-walk-μ-loop
-row-walk-child-requires t c κs = (c .before .pre .1 .0 .ready .accepted, c .before .pre .1 .1)
-
-row-walk-rows-requires : (t : ℕ) → row-walk-lts.Need-rows-requires (
-  child-reads.Asked,
-  child-reads.Learnt,
-  rows-reads.Asked,
-  rows-reads.Learnt,
-  next-taken-reads.Asked,
-  next-taken-reads.Learnt,
-  row-turn-below t,
-  row-turn.Post,
-) (row-walk-at t) row-walk.Post row-walk-Inv-loop row-walk-μ-loop
-row-walk-rows-requires t c κs = (c .before .before .pre .1 .0 .ready .accepted, c .child .ensures .1)
+row-walk-μ-loop schema area₀ tally₀ k f new left rows key n j₀ area tally j = n - j
 
 row-walk-loop-holds : (t : ℕ) → row-walk-lts.Need-loop-holds (
-  child-reads.Asked,
-  child-reads.Learnt,
-  rows-reads.Asked,
-  rows-reads.Learnt,
-  next-taken-reads.Asked,
-  next-taken-reads.Learnt,
+  first-with-key-reads.Asked,
+  first-with-key-reads.Learnt,
   row-turn-below t,
   row-turn.Post,
 ) (row-walk-at t) row-walk.Post row-walk-Inv-loop row-walk-μ-loop
@@ -675,215 +603,148 @@ row-walk-loop-holds t c =
     let s = c .before .before .before in
     let a = s .args in
     let sc = schemaOf (a .schema .now) in
-    let rn : c .rows .result ≡ tableOf sc (keyOf sc (a .k) .child) .rows = c .rows .ensures .0 ∙ ap (λ (u : ℕ). tableOf sc u .rows) (c .before .child .ensures .0) in
+    let rn = rows-many (a .schema .now) (a .area .now) (s .pre .1 .0 .ready) (a .k) (a .new) (a .f) (s .pre .1 .1) in
     (search needs, (refl, (follows-refl (s .pre .1 .0 .ready .fit), law.rows-start _ _ _ _ _ _ _ rn)))
 
-row-walk-next-taken-requires : (t : ℕ) → row-walk-lts.Need-next-taken-requires (
-  child-reads.Asked,
-  child-reads.Learnt,
-  rows-reads.Asked,
-  rows-reads.Learnt,
-  next-taken-reads.Asked,
-  next-taken-reads.Learnt,
+row-walk-first-with-key-requires : (t : ℕ) → row-walk-lts.Need-first-with-key-requires (
+  first-with-key-reads.Asked,
+  first-with-key-reads.Learnt,
   row-turn-below t,
   row-turn.Post,
 ) (row-walk-at t) row-walk.Post row-walk-Inv-loop row-walk-μ-loop
-row-walk-next-taken-requires t c κs =
-    let child = c .before .before .before .before .child in
-    let rows = c .before .before .before .rows in
-    let l = c .before .before .loop in
+row-walk-first-with-key-requires t c κs =
     let s = c .before .before .before .before .before .before in
     let a = s .args in
     let sc = schemaOf (a .schema .now) in
-    let rn : rows .result ≡ tableOf sc (keyOf sc (a .k) .child) .rows = rows .ensures .0 ∙ ap (λ (u : ℕ). tableOf sc u .rows) (child .ensures .0) in
-    (tallied-after (s .pre .1 .0) (l .inv .1 .1 .0) .ready, (s .pre .1 .1, omega (arith, rn, l .inv .0)))
+    let l = c .before .before .loop in
+    let ready = search-ready (a .schema .now) _ (tallied-after (s .pre .1 .0) (l .inv .1 .1 .0) .ready) (a .k) (a .new) (a .f) (s .pre .1 .1) in
+    ((ready .0, l .inv .0), ready .1)
 
 row-walk-same-length : (t : ℕ) → row-walk-lts.Need-same-length (
-  child-reads.Asked,
-  child-reads.Learnt,
-  rows-reads.Asked,
-  rows-reads.Learnt,
-  next-taken-reads.Asked,
-  next-taken-reads.Learnt,
+  first-with-key-reads.Asked,
+  first-with-key-reads.Learnt,
   row-turn-below t,
   row-turn.Post,
 ) (row-walk-at t) row-walk.Post row-walk-Inv-loop row-walk-μ-loop
 row-walk-same-length t c = search needs
 
 row-walk-returns : (t : ℕ) → row-walk-lts.Need-returns (
-  child-reads.Asked,
-  child-reads.Learnt,
-  rows-reads.Asked,
-  rows-reads.Learnt,
-  next-taken-reads.Asked,
-  next-taken-reads.Learnt,
+  first-with-key-reads.Asked,
+  first-with-key-reads.Learnt,
   row-turn-below t,
   row-turn.Post,
 ) (row-walk-at t) row-walk.Post row-walk-Inv-loop row-walk-μ-loop
 row-walk-returns t c =
-    let child = c .before .before .before .before .before .before .child in
-    let rows = c .before .before .before .before .before .rows in
-    let l = c .before .before .before .before .loop in
-    let next-taken = c .before .next-taken in
     let s = c .before .before .before .before .before .before .before .before in
     let a = s .args in
     let sc = schemaOf (a .schema .now) in
-    let rn : rows .result ≡ tableOf sc (keyOf sc (a .k) .child) .rows = rows .ensures .0 ∙ ap (λ (u : ℕ). tableOf sc u .rows) (child .ensures .0) in
-    let f = next-taken .ensures in
-    (sym (l .inv .1 .1 .1 ∙ law.rows-past (change (a .left) sc) sc (a .new) (keyOf sc (a .k)) (a .old) (rows .result) (l .j) (next-taken .result) _ (f .low) (omega (arith, f .high, rn)) (c .if1 .taken) (f .skipped)), l .inv .1 .1 .0)
+    let l = c .before .before .before .before .loop in
+    let found = found-first (a .schema .now) _ (tallied-after (s .pre .1 .0) (l .inv .1 .1 .0) .ready) (a .k) (a .new) (a .f) (s .pre .1 .1) (c .before .first-with-key .ensures) in
+    (sym (l .inv .1 .1 .1 ∙ law.rows-past (change (a .left) sc) sc (a .new) (keyOf sc (a .k)) (soughtValues (a .f .key)) (a .f .rows .count) (l .j) (c .before .first-with-key .result) _ (found .low) (found .high) (c .if1 .taken) (found .skipped)), l .inv .1 .1 .0)
 
 row-walk-row-turn-requires : (t : ℕ) → row-walk-lts.Need-row-turn-requires (
-  child-reads.Asked,
-  child-reads.Learnt,
-  rows-reads.Asked,
-  rows-reads.Learnt,
-  next-taken-reads.Asked,
-  next-taken-reads.Learnt,
+  first-with-key-reads.Asked,
+  first-with-key-reads.Learnt,
   row-turn-below t,
   row-turn.Post,
 ) (row-walk-at t) row-walk.Post row-walk-Inv-loop row-walk-μ-loop
 row-walk-row-turn-requires t c κs =
-    let rows = c .before .before .before .before .before .before .before .rows in
-    let l = c .before .before .before .before .before .before .loop in
-    let next-taken = c .before .before .before .next-taken in
-    let if1 = c .before .before .if1 in
     let s = c .before .before .before .before .before .before .before .before .before .before in
     let a = s .args in
     let sc = schemaOf (a .schema .now) in
-    let rn : rows .result ≡ tableOf sc (keyOf sc (a .k) .child) .rows = rows .ensures .0 ∙ ap (λ (u : ℕ). tableOf sc u .rows) (c .before .before .before .before .before .before .before .before .child .ensures .0) in
-    let f = next-taken .ensures in
-    let lt : next-taken .result < rows .result = omega (arith, if1 .left) in
-    (search needs, (record { tallied = tallied-after (s .pre .1 .0) (l .inv .1 .1 .0); table = c .before .before .before .before .before .before .before .before .child .ensures .1; row = omega (arith, lt, rows .ensures .0) }, record { accepted = s .pre .1 .0 .ready .accepted; key = s .pre .1 .1; child = c .before .before .before .before .before .before .before .before .child .ensures .0 }))
+    let l = c .before .before .before .before .before .before .loop in
+    let lt : c .before .before .before .first-with-key .result < a .f .rows .count = omega (arith, c .before .before .if1 .left) in
+    let set = tallied-after (s .pre .1 .0) (l .inv .1 .1 .0) in
+    (search needs, (record { tallied = set; table = table-there (a .schema .now) _ (set .ready) (a .k) (a .new) (a .f) (s .pre .1 .1); row = omega (arith, lt, s .pre .1 .1 .stand .count-is) }, s .pre .1 .1))
 
 row-walk-enum-told : (t : ℕ) → row-walk-lts.Need-enum-told (
-  child-reads.Asked,
-  child-reads.Learnt,
-  rows-reads.Asked,
-  rows-reads.Learnt,
-  next-taken-reads.Asked,
-  next-taken-reads.Learnt,
+  first-with-key-reads.Asked,
+  first-with-key-reads.Learnt,
   row-turn-below t,
   row-turn.Post,
 ) (row-walk-at t) row-walk.Post row-walk-Inv-loop row-walk-μ-loop
 row-walk-enum-told t c = search needs
 
 row-walk-enum-known-c : (t : ℕ) → row-walk-lts.Need-enum-known-c (
-  child-reads.Asked,
-  child-reads.Learnt,
-  rows-reads.Asked,
-  rows-reads.Learnt,
-  next-taken-reads.Asked,
-  next-taken-reads.Learnt,
+  first-with-key-reads.Asked,
+  first-with-key-reads.Learnt,
   row-turn-below t,
   row-turn.Post,
 ) (row-walk-at t) row-walk.Post row-walk-Inv-loop row-walk-μ-loop
 row-walk-enum-known-c t c = search needs
 
 row-walk-same-length-2 : (t : ℕ) → row-walk-lts.Need-same-length-2 (
-  child-reads.Asked,
-  child-reads.Learnt,
-  rows-reads.Asked,
-  rows-reads.Learnt,
-  next-taken-reads.Asked,
-  next-taken-reads.Learnt,
+  first-with-key-reads.Asked,
+  first-with-key-reads.Learnt,
   row-turn-below t,
   row-turn.Post,
 ) (row-walk-at t) row-walk.Post row-walk-Inv-loop row-walk-μ-loop
 row-walk-same-length-2 t c = search needs
 
 row-walk-returns-2 : (t : ℕ) → row-walk-lts.Need-returns-2 (
-  child-reads.Asked,
-  child-reads.Learnt,
-  rows-reads.Asked,
-  rows-reads.Learnt,
-  next-taken-reads.Asked,
-  next-taken-reads.Learnt,
+  first-with-key-reads.Asked,
+  first-with-key-reads.Learnt,
   row-turn-below t,
   row-turn.Post,
 ) (row-walk-at t) row-walk.Post row-walk-Inv-loop row-walk-μ-loop
 row-walk-returns-2 t c =
-    let child = c .before .before .before .before .before .before .before .before .before .before .before .before .before .child in
-    let rows = c .before .before .before .before .before .before .before .before .before .before .before .before .rows in
-    let l = c .before .before .before .before .before .before .before .before .before .before .before .loop in
-    let next-taken = c .before .before .before .before .before .before .before .before .next-taken in
-    let if1 = c .before .before .before .before .before .before .before .if1 in
-    let row-turn = c .before .before .before .before .row-turn in
     let s = c .before .before .before .before .before .before .before .before .before .before .before .before .before .before .before in
     let a = s .args in
     let sc = schemaOf (a .schema .now) in
-    let rn : rows .result ≡ tableOf sc (keyOf sc (a .k) .child) .rows = rows .ensures .0 ∙ ap (λ (u : ℕ). tableOf sc u .rows) (child .ensures .0) in
-    let f = next-taken .ensures in
-    let lt : next-taken .result < rows .result = omega (arith, if1 .left) in
-    (sym (l .inv .1 .1 .1 ∙ law.rows-refused (change (a .left) sc) sc (a .new) (keyOf sc (a .k)) (a .old) (rows .result) (l .j) (next-taken .result) _ (f .low) lt (f .skipped) (f .found (omega (arith, lt, rn))) (child .result) (child .ensures .0) _ _ (row-turn .ensures .0) (c .before .c .given .1)), follows-trans (l .inv .1 .1 .0) (row-turn .ensures .1))
+    let l = c .before .before .before .before .before .before .before .before .before .before .before .loop in
+    let lt : c .before .before .before .before .before .before .before .before .first-with-key .result < a .f .rows .count = omega (arith, c .before .before .before .before .before .before .before .if1 .left) in
+    let found = found-first (a .schema .now) _ (tallied-after (s .pre .1 .0) (l .inv .1 .1 .0) .ready) (a .k) (a .new) (a .f) (s .pre .1 .1) (c .before .before .before .before .before .before .before .before .first-with-key .ensures) in
+    (sym (l .inv .1 .1 .1 ∙ law.rows-refused (change (a .left) sc) sc (a .new) (keyOf sc (a .k)) (soughtValues (a .f .key)) (a .f .rows .count) (l .j) (c .before .before .before .before .before .before .before .before .first-with-key .result) _ (found .low) lt (found .skipped) (found .found lt) (a .f .table) (s .pre .1 .1 .table-is) _ _ (c .before .before .before .before .row-turn .ensures .0) (c .before .c .given .1)), follows-trans (l .inv .1 .1 .0) (c .before .before .before .before .row-turn .ensures .1))
 
 row-walk-add-j : (t : ℕ) → row-walk-lts.Need-add-j (
-  child-reads.Asked,
-  child-reads.Learnt,
-  rows-reads.Asked,
-  rows-reads.Learnt,
-  next-taken-reads.Asked,
-  next-taken-reads.Learnt,
+  first-with-key-reads.Asked,
+  first-with-key-reads.Learnt,
   row-turn-below t,
   row-turn.Post,
 ) (row-walk-at t) row-walk.Post row-walk-Inv-loop row-walk-μ-loop
-row-walk-add-j t c = search needs
+row-walk-add-j t c =
+    let s = c .before .before .before .before .before .before .before .before .before .before .before .before .before .before in
+    let a = s .args in
+    let sc = schemaOf (a .schema .now) in
+    let l = c .before .before .before .before .before .before .before .before .before .before .loop in
+    let lt : c .before .before .before .before .before .before .before .first-with-key .result < a .f .rows .count = omega (arith, c .before .before .before .before .before .before .if1 .left) in
+    let ready = search-ready (a .schema .now) _ (tallied-after (s .pre .1 .0) (l .inv .1 .1 .0) .ready) (a .k) (a .new) (a .f) (s .pre .1 .1) in
+    omega (arith, lt, ready .0 .few)
 
 row-walk-loop-less : (t : ℕ) → row-walk-lts.Need-loop-less (
-  child-reads.Asked,
-  child-reads.Learnt,
-  rows-reads.Asked,
-  rows-reads.Learnt,
-  next-taken-reads.Asked,
-  next-taken-reads.Learnt,
+  first-with-key-reads.Asked,
+  first-with-key-reads.Learnt,
   row-turn-below t,
   row-turn.Post,
 ) (row-walk-at t) row-walk.Post row-walk-Inv-loop row-walk-μ-loop
 row-walk-loop-less t c = search needs
 
 row-walk-loop-again : (t : ℕ) → row-walk-lts.Need-loop-again (
-  child-reads.Asked,
-  child-reads.Learnt,
-  rows-reads.Asked,
-  rows-reads.Learnt,
-  next-taken-reads.Asked,
-  next-taken-reads.Learnt,
+  first-with-key-reads.Asked,
+  first-with-key-reads.Learnt,
   row-turn-below t,
   row-turn.Post,
 ) (row-walk-at t) row-walk.Post row-walk-Inv-loop row-walk-μ-loop
 row-walk-loop-again t c =
-    let child = c .before .before .before .before .before .before .before .before .before .before .before .before .child in
-    let rows = c .before .before .before .before .before .before .before .before .before .before .before .rows in
-    let l = c .before .before .before .before .before .before .before .before .before .before .loop in
-    let next-taken = c .before .before .before .before .before .before .before .next-taken in
-    let if1 = c .before .before .before .before .before .before .if1 in
-    let row-turn = c .before .before .before .row-turn in
     let s = c .before .before .before .before .before .before .before .before .before .before .before .before .before .before in
     let a = s .args in
     let sc = schemaOf (a .schema .now) in
-    let rn : rows .result ≡ tableOf sc (keyOf sc (a .k) .child) .rows = rows .ensures .0 ∙ ap (λ (u : ℕ). tableOf sc u .rows) (child .ensures .0) in
-    let f = next-taken .ensures in
-    let lt : next-taken .result < rows .result = omega (arith, if1 .left) in
-    (omega (arith, lt), (search needs, (follows-trans (l .inv .1 .1 .0) (row-turn .ensures .1), l .inv .1 .1 .1 ∙ law.rows-done (change (a .left) sc) sc (a .new) (keyOf sc (a .k)) (a .old) (rows .result) (l .j) (next-taken .result) _ (f .low) lt (f .skipped) (f .found (omega (arith, lt, rn))) (child .result) (child .ensures .0) _ _ (row-turn .ensures .0) (c .enum-told .given .1))))
+    let l = c .before .before .before .before .before .before .before .before .before .before .loop in
+    let lt : c .before .before .before .before .before .before .before .first-with-key .result < a .f .rows .count = omega (arith, c .before .before .before .before .before .before .if1 .left) in
+    let found = found-first (a .schema .now) _ (tallied-after (s .pre .1 .0) (l .inv .1 .1 .0) .ready) (a .k) (a .new) (a .f) (s .pre .1 .1) (c .before .before .before .before .before .before .before .first-with-key .ensures) in
+    (omega (arith, lt), (search needs, (follows-trans (l .inv .1 .1 .0) (c .before .before .before .row-turn .ensures .1), l .inv .1 .1 .1 ∙ law.rows-done (change (a .left) sc) sc (a .new) (keyOf sc (a .k)) (soughtValues (a .f .key)) (a .f .rows .count) (l .j) (c .before .before .before .before .before .before .before .first-with-key .result) _ (found .low) lt (found .skipped) (found .found lt) (a .f .table) (s .pre .1 .1 .table-is) _ _ (c .before .before .before .row-turn .ensures .0) (c .enum-told .given .1))))
 
 row-walk-same-length-3 : (t : ℕ) → row-walk-lts.Need-same-length-3 (
-  child-reads.Asked,
-  child-reads.Learnt,
-  rows-reads.Asked,
-  rows-reads.Learnt,
-  next-taken-reads.Asked,
-  next-taken-reads.Learnt,
+  first-with-key-reads.Asked,
+  first-with-key-reads.Learnt,
   row-turn-below t,
   row-turn.Post,
 ) (row-walk-at t) row-walk.Post row-walk-Inv-loop row-walk-μ-loop
 row-walk-same-length-3 t c = search needs
 
 row-walk-returns-3 : (t : ℕ) → row-walk-lts.Need-returns-3 (
-  child-reads.Asked,
-  child-reads.Learnt,
-  rows-reads.Asked,
-  rows-reads.Learnt,
-  next-taken-reads.Asked,
-  next-taken-reads.Learnt,
+  first-with-key-reads.Asked,
+  first-with-key-reads.Learnt,
   row-turn-below t,
   row-turn.Post,
 ) (row-walk-at t) row-walk.Post row-walk-Inv-loop row-walk-μ-loop
@@ -894,6 +755,8 @@ pub +key-turn+key-walk+row-change+row-turn+row-walk-spec : {M : Type 1} → stat
     close μ-key-turn μ-key-walk μ-row-change μ-row-turn μ-row-walk (λ t. key-turn-lts.spec (
       fires-reads.Asked,
       fires-reads.Learnt,
+      followers-of-reads.Asked,
+      followers-of-reads.Learnt,
       row-walk-below t,
       row-walk.Post,
     )
@@ -901,6 +764,7 @@ pub +key-turn+key-walk+row-change+row-turn+row-walk-spec : {M : Type 1} → stat
     key-turn.Post
     (key-turn-fires-requires t)
     (key-turn-returns t)
+    (key-turn-followers-of-requires t)
     (key-turn-row-walk-requires t)
     (key-turn-same-length t)
     (key-turn-returns-2 t))
@@ -948,8 +812,6 @@ pub +key-turn+key-walk+row-change+row-turn+row-walk-spec : {M : Type 1} → stat
     (row-change-same-length-2 t)
     (row-change-returns-3 t))
     (λ t. row-turn-lts.spec (
-      action-of-reads.Asked,
-      action-of-reads.Learnt,
       child-after-reads.Asked,
       child-after-reads.Learnt,
       row-change-below t,
@@ -957,7 +819,6 @@ pub +key-turn+key-walk+row-change+row-turn+row-walk-spec : {M : Type 1} → stat
     )
     (row-turn-at t)
     row-turn.Post
-    (row-turn-action-of-requires t)
     (row-turn-enum-told t)
     (row-turn-enum-told-2 t)
     (row-turn-enum-told-3 t)
@@ -977,24 +838,14 @@ pub +key-turn+key-walk+row-change+row-turn+row-walk-spec : {M : Type 1} → stat
     (row-turn-returns-4 t)
     (row-turn-same-length-3 t)
     (row-turn-returns-5 t))
-    λ t. row-walk-lts.spec (
-      child-reads.Asked,
-      child-reads.Learnt,
-      rows-reads.Asked,
-      rows-reads.Learnt,
-      next-taken-reads.Asked,
-      next-taken-reads.Learnt,
-      row-turn-below t,
-      row-turn.Post,
-    )
+    λ t. row-walk-lts.spec
+    (first-with-key-reads.Asked, first-with-key-reads.Learnt, row-turn-below t, row-turn.Post)
     (row-walk-at t)
     row-walk.Post
     row-walk-Inv-loop
     row-walk-μ-loop
-    (row-walk-child-requires t)
-    (row-walk-rows-requires t)
     (row-walk-loop-holds t)
-    (row-walk-next-taken-requires t)
+    (row-walk-first-with-key-requires t)
     (row-walk-same-length t)
     (row-walk-returns t)
     (row-walk-row-turn-requires t)
