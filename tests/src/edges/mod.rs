@@ -3,6 +3,7 @@
 
 mod limits;
 mod lists;
+mod old_keys;
 mod paper;
 mod searches;
 mod students;
@@ -45,6 +46,7 @@ pub fn all() -> Vec<Case> {
         students::cases(),
         lists::cases(),
         searches::cases(),
+        old_keys::cases(),
     ]
     .into_iter()
     .flatten()

@@ -71,7 +71,7 @@ fn kept_numbers(r: &mut Random, ground: &Ground) -> Vec<i64> {
 }
 
 /// Opens levels over a journal of random records.
-fn open_levels(r: &mut Random, ground: &Ground, area: &mut Area) {
+pub fn open_levels(r: &mut Random, ground: &Ground, area: &mut Area) {
     let open = r.edged(1, 9);
     let used = r.edged(0, ground.schema.room.min(30));
     area.words[0] = open as i64;
@@ -117,8 +117,8 @@ pub fn state(r: &mut Random) -> i64 {
 }
 
 /// A chain: row i begins with i, each further column is one less, so it refers to row i - 1; the
-/// first refers to none, nor do the rows past the chain. Rows stand in any order. Inserts from the
-/// first on lead to it.
+/// first refers to none. The rows past the chain refer to none, or each to a row of it. Rows stand
+/// in any order. Inserts from the first on lead to it.
 pub fn chained(r: &mut Random, ground: &Ground) -> Vec<i64> {
     let mut area = Area {
         schema: &ground.schema,
@@ -137,11 +137,18 @@ pub fn chained(r: &mut Random, ground: &Ground) -> Vec<i64> {
         r.between(table.rows - 3, table.rows)
     };
     let live = r.pick(&[length, table.rows, table.rows]);
+    let branched = r.once_in(2);
     for (i, &place) in places[..live].iter().enumerate() {
-        let mut row: Row = (0..table.columns)
-            .map(|c| Some(i as i64 - c as i64))
+        let after = if i < length || !branched {
+            i
+        } else {
+            r.between(1, length)
+        };
+        let mut row: Row = (0..table.columns as i64)
+            .map(|c| Some(after as i64 - c))
             .collect();
-        if i == 0 || i >= length {
+        row[0] = Some(i as i64);
+        if i == 0 || i >= length && !branched {
             row[table.columns - 1] = None;
         }
         area.put_row(0, place, Some(&row));

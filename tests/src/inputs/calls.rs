@@ -1,7 +1,7 @@
 //! Well-formed calls at random.
 
 use super::grounds::Ground;
-use super::searches;
+use super::{parents, searches};
 use crate::model::area::Area;
 use crate::model::schema::{Row, Value};
 use crate::random::Random;
@@ -37,6 +37,20 @@ pub fn any(r: &mut Random, ground: &Ground, area: &[i64]) -> Vec<i64> {
     } else {
         change_call(r, ground, &area)
     }
+}
+
+/// As `any`, but mostly a change of a row that others refer to.
+pub fn leading_to_actions(r: &mut Random, ground: &Ground, words: &[i64]) -> Vec<i64> {
+    let area = Area {
+        schema: &ground.schema,
+        words: words.to_vec(),
+    };
+    let call = if r.once_in(4) {
+        None
+    } else {
+        parents::any(r, ground, &area)
+    };
+    call.unwrap_or_else(|| any(r, ground, words))
 }
 
 /// A call that opens a transaction where none is open. Inside one, most are inserts of any values,
@@ -88,7 +102,7 @@ fn change_call(r: &mut Random, ground: &Ground, area: &Area) -> Vec<i64> {
     }
 }
 
-/// A row whose child keys are often those of a live parent row.
+/// A row whose child keys are often those of a live parent row, or nearly.
 pub fn new_row(r: &mut Random, ground: &Ground, area: &Area, table: usize) -> Row {
     let columns = 0..ground.schema.tables[table].columns;
     let mut row: Row = columns.map(|c| value(r, ground, table, c)).collect();
@@ -101,6 +115,10 @@ pub fn new_row(r: &mut Random, ground: &Ground, area: &Area, table: usize) -> Ro
         let (_, parent) = &parents[r.between(0, parents.len() - 1)];
         for (&column, &from) in key.child_columns.iter().zip(&key.parent_columns) {
             row[column] = parent[from];
+        }
+        if r.once_in(8) {
+            let column = r.pick(&key.child_columns);
+            row[column] = value(r, ground, table, column);
         }
     }
     row

@@ -27,13 +27,7 @@ pub const DAMAGES: &[Damage] = &[
         area[36 + 33 * level] = near(r, ground.schema.room);
     }),
     ("a row's state", |r, ground, area| {
-        let mut at = 333;
-        let table = r.between(0, ground.schema.tables.len() - 1);
-        for before in &ground.schema.tables[..table] {
-            at += before.words();
-        }
-        let table = &ground.schema.tables[table];
-        area[at + (1 + table.columns) * r.between(0, table.rows - 1)] = state(r);
+        damage_state(r, ground, area)
     }),
     ("a word of a row", |r, ground, area| {
         let at = r.between(333, journal_at(ground) - 1);
@@ -61,6 +55,26 @@ pub fn damaged(r: &mut Random, ground: &Ground, area: &[i64]) -> Vec<i64> {
         damage(r, ground, &mut area);
     }
     area
+}
+
+/// The words with the states of some rows damaged: refusal 10 lets them pass.
+pub fn damaged_rows(r: &mut Random, ground: &Ground, area: &[i64]) -> Vec<i64> {
+    let mut area = area.to_vec();
+    for _ in 0..r.between(1, 4) {
+        damage_state(r, ground, &mut area);
+    }
+    area
+}
+
+/// Changes the state of some row.
+fn damage_state(r: &mut Random, ground: &Ground, area: &mut [i64]) {
+    let mut at = 333;
+    let table = r.between(0, ground.schema.tables.len() - 1);
+    for before in &ground.schema.tables[..table] {
+        at += before.words();
+    }
+    let table = &ground.schema.tables[table];
+    area[at + (1 + table.columns) * r.between(0, table.rows - 1)] = state(r);
 }
 
 /// The words with some taken off, or some more.

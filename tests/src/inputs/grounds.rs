@@ -173,47 +173,62 @@ fn gathered_key(r: &mut Random, tables: usize) -> Key {
 /// ACTION: one change often follows from another.
 pub fn tangled(r: &mut Random) -> Ground {
     let values: Vec<i64> = (0..=r.between(1, 3) as i64).collect();
-    let width = r.between(1, 2);
+    let width = r.pick(&[1, 1, 2, 2, 3, 4]);
+    let columns = r.between(width + 1, (2 * width).max(3));
+    let any_columns = r.once_in(2);
     let count = r.between(1, 2);
     let tables: Vec<Table> = (0..count)
-        .map(|_| tangled_table(r, &values, width))
+        .map(|_| tangled_table(r, &values, width, columns))
         .collect();
     let keys = (0..r.between(1, 4))
-        .map(|_| tangled_key(r, count, width))
+        .map(|_| tangled_key(r, (count, width, columns), any_columns))
         .collect();
-    let room = r.pick(&[8, 20, 40, 60]);
+    let room = r.pick(&[4, 8, 20, 40, 60]);
     Ground::new(Records::new(room, tables, keys), values)
 }
 
-fn tangled_table(r: &mut Random, values: &[i64], width: usize) -> Table {
+/// Its key is in the first columns. Some columns are NOT NULL, or have NULL as default.
+fn tangled_table(r: &mut Random, values: &[i64], width: usize, columns: usize) -> Table {
+    let mask = low_bits(columns);
+    let default_null = r.byte() & r.byte() & mask & r.pick(&[0, 0, 255]);
     let mut defaults = [0; 8];
-    defaults[..3].fill_with(|| r.pick(values));
+    for (i, default) in defaults.iter_mut().enumerate().take(columns) {
+        if default_null >> i & 1 == 0 {
+            *default = r.pick(values);
+        }
+    }
     Table {
-        rows: r.pick(&[3, 4, 6]),
-        columns: 3,
-        not_null: 0,
+        rows: r.pick(&[3, 4, 6, 8]),
+        columns: columns as u8,
+        not_null: r.byte() & r.byte() & mask & r.pick(&[0, 0, 255]),
         unique: [low_bits(width), 0, 0, 0],
-        default_null: 0,
+        default_null,
         zeros: [0; 7],
         defaults,
     }
 }
 
-fn tangled_key(r: &mut Random, tables: usize, width: usize) -> Key {
-    let (mut child_columns, mut parent_columns) = ([2, 1, 0], [0, 1]);
-    if r.once_in(2) {
+/// The child columns are the last, or any.
+fn tangled_key(
+    r: &mut Random,
+    (tables, width, columns): (usize, usize, usize),
+    any_columns: bool,
+) -> Key {
+    let mut child_columns: Vec<u8> = (0..columns as u8).rev().collect();
+    let mut parent_columns: Vec<u8> = (0..width as u8).collect();
+    if any_columns && r.once_in(2) {
         r.shuffle(&mut child_columns);
     }
-    r.shuffle(&mut parent_columns[..width]);
+    r.shuffle(&mut parent_columns);
     Key {
         child: r.between(0, tables - 1) as u8,
         parent: r.between(0, tables - 1) as u8,
-        deferred: r.between(0, 1) as u8,
+        deferred: r.pick(&[0, 1, 1]),
         on_delete: r.pick(&[0, 1, 2, 3, 3, 4, 4]),
         on_update: r.pick(&[0, 1, 2, 3, 3, 4, 4]),
         count: width as u8,
         child_columns: four(&child_columns[..width]),
-        parent_columns: four(&parent_columns[..width]),
+        parent_columns: four(&parent_columns),
         zeros: [0; 2],
     }
 }

@@ -5,6 +5,8 @@ pub mod broken;
 pub mod calls;
 pub mod damages;
 pub mod grounds;
+pub mod herds;
 pub mod malformed;
 pub mod orphan_grounds;
+pub mod parents;
 pub mod searches;

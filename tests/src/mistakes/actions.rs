@@ -1,10 +1,9 @@
 //! Mistakes in keys, orphans and referential actions.
 
 use super::Mistake;
-use crate::model::area::Area;
-use crate::model::change;
 use crate::model::keys::{full, having};
-use crate::model::schema::{Action, Key, Row};
+use crate::model::schema::Action;
+use crate::model::walk;
 
 pub const ALL: &[Mistake] = &[
     (
@@ -17,13 +16,13 @@ pub const ALL: &[Mistake] = &[
         rules.asks = |key| key.iter().any(|value| value.is_some());
     }),
     ("RESTRICT held until commit", |rules| {
-        rules.action = |key, deletion| match change::action(key, deletion) {
+        rules.action = |key, deletion| match walk::action(key, deletion) {
             Action::Restrict => Action::NoAction,
             action => action,
         };
     }),
     ("NO ACTION strikes as RESTRICT does", |rules| {
-        rules.action = |key, deletion| match change::action(key, deletion) {
+        rules.action = |key, deletion| match walk::action(key, deletion) {
             Action::NoAction => Action::Restrict,
             action => action,
         };
@@ -32,7 +31,7 @@ pub const ALL: &[Mistake] = &[
         rules.action = |key, _| key.on_update;
     }),
     ("no action where the new key has NULL", |rules| {
-        rules.fires = |old, new| change::fires(old, new) && new.map_or(true, full);
+        rules.fires = |old, new| walk::fires(old, new) && new.map_or(true, full);
     }),
     ("NULL taken as equal to NULL", |rules| {
         rules.fires = |old, new| new != Some(old);
@@ -58,10 +57,9 @@ pub const ALL: &[Mistake] = &[
         rules.turns = |area, key, old| having(area, key, old).into_iter().take(1).collect();
     }),
     ("a self-referring row passed over", |rules| {
-        rules.turns = |area, key, old| {
-            let rows = 0..area.schema.tables[key.child].rows;
-            rows.filter(|&row| !refers_to_itself(area, key, row, old))
-                .collect()
+        rules.found = |rules, area, walk, row| {
+            let found = walk::found(rules, area, walk, row);
+            found.filter(|_| (walk.key.child, row) != (walk.change.table, walk.change.row))
         };
     }),
     ("SET DEFAULT writes NULL", |rules| {
@@ -70,12 +68,12 @@ pub const ALL: &[Mistake] = &[
                 Action::SetDefault => Action::SetNull,
                 action => action,
             };
-            change::image(schema, key, action, child, parent)
+            walk::image(schema, key, action, child, parent)
         };
     }),
     ("SET NULL clears the first column only", |rules| {
         rules.image = |schema, key, action, child, parent| {
-            let mut new = change::image(schema, key, action, child, parent)?;
+            let mut new = walk::image(schema, key, action, child, parent)?;
             if action == Action::SetNull {
                 let rest = &key.child_columns[1..];
                 rest.iter().for_each(|&column| new[column] = child[column]);
@@ -87,7 +85,7 @@ pub const ALL: &[Mistake] = &[
         "CASCADE upon an update gives columns in table order",
         |rules| {
             rules.image = |schema, key, action, child, parent| {
-                let mut new = change::image(schema, key, action, child, parent)?;
+                let mut new = walk::image(schema, key, action, child, parent)?;
                 if let (Action::Cascade, Some(parent)) = (action, parent) {
                     let mut from = key.parent_columns.clone();
                     from.sort();
@@ -99,9 +97,3 @@ pub const ALL: &[Mistake] = &[
         },
     ),
 ];
-
-/// Whether the row of this number is still its own parent.
-fn refers_to_itself(area: &Area, key: &Key, row: usize, old: &Row) -> bool {
-    let own = area.row(key.child, row);
-    key.child == key.parent && own.map_or(false, |own| key.parent_key(&own) == *old)
-}

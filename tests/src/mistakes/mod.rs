@@ -2,6 +2,7 @@
 //! that are worth nothing. The tests must tell each from the paper's.
 
 mod actions;
+mod old_key;
 mod orphan_list;
 mod refusals;
 mod searches;
@@ -19,6 +20,7 @@ pub type Mistake = (&'static str, fn(&mut Rules));
 pub fn all() -> Vec<(&'static str, Box<dyn Engine>)> {
     let lists = [
         actions::ALL,
+        old_key::ALL,
         refusals::ALL,
         transactions::ALL,
         orphan_list::ALL,

@@ -61,10 +61,15 @@ impl Area<'_> {
         start..start + width
     }
 
+    /// The words of a row, live or vacant: the state and the values.
+    pub fn stored(&self, table: usize, row: usize) -> (i64, &[i64]) {
+        let words = &self.words[self.row_words(table, row)];
+        (words[0], &words[1..])
+    }
+
     /// The row, or none where it is vacant.
     pub fn row(&self, table: usize, row: usize) -> Option<Row> {
-        let words = &self.words[self.row_words(table, row)];
-        let (state, values) = (words[0], &words[1..]);
+        let (state, values) = self.stored(table, row);
         if !(256..=511).contains(&state) {
             return None;
         }
@@ -100,6 +105,11 @@ impl Area<'_> {
         let tables: usize = self.schema.tables.iter().map(|t| t.words()).sum();
         let start = TABLES_AT + tables + RECORD * record;
         start..start + RECORD
+    }
+
+    /// The words of a journal record.
+    pub fn record(&self, record: usize) -> &[i64] {
+        &self.words[self.record_words(record)]
     }
 
     /// The table and the row that a journal record names, if there is such a row.

@@ -13,6 +13,7 @@ pub mod search;
 pub mod statement;
 pub mod strike;
 pub mod transaction;
+pub mod walk;
 
 use crate::engine::{Answer, Engine, Listed, Orphan};
 use area::Area;
@@ -79,12 +80,7 @@ impl Model {
         if area.row(table, row).is_some() != live {
             return Err(11);
         }
-        let own = Change {
-            depth: 1,
-            table,
-            row,
-            new,
-        };
+        let own = Change::own(table, row, new);
         statement::run(&self.rules, area, |area| {
             change::make(&self.rules, area, &own)
         })

@@ -11,6 +11,7 @@ use super::schema::{Action, Key, Row, Schema};
 use super::search::{self, Search};
 use super::statement::{self, End, Outcome};
 use super::transaction;
+use super::walk::{self, Walk};
 use crate::engine::Orphan;
 
 #[derive(Clone)]
@@ -35,6 +36,8 @@ pub struct Rules {
     pub key_sequence: fn(&Schema, Vec<usize>) -> Vec<usize>,
     /// The child rows that come to their turn: of which key, and the old parent key.
     pub turns: fn(&Area, &Key, &Row) -> Vec<usize>,
+    /// The child row that is taken at the turn of a number, with its number.
+    pub found: fn(&Rules, &Area, &Walk, usize) -> Option<(usize, Row)>,
     /// What an action makes of a child row, given the new parent row.
     pub image: fn(&Schema, &Key, Action, &Row, Option<&Row>) -> Option<Row>,
     /// Writes a row change: journal and row.
@@ -94,11 +97,12 @@ impl Rules {
             ends: statement::ENDS.to_vec(),
             asks: keys::full,
             equal: keys::equal,
-            fires: change::fires,
-            action: change::action,
+            fires: walk::fires,
+            action: walk::action,
             key_sequence: |_, keys| keys,
             turns: |area, key, _| (0..area.schema.tables[key.child].rows).collect(),
-            image: change::image,
+            found: walk::found,
+            image: walk::image,
             write: change::write,
             rows_sought: search::rows,
             met: |_, area, search, row| search::met(area, search, row),

@@ -125,16 +125,27 @@ pub fn turn(
     search: &Search,
     row: usize,
 ) -> Result<(), i64> {
-    let old = match (rules.met)(entry, area, search, row) {
-        Some(old) => old,
-        None => return Ok(()),
-    };
-    let own = Change {
+    match own_change(rules, entry, area, search, row) {
+        Some(own) => {
+            change::make(rules, area, &own)?;
+            (rules.between_rows)(rules, entry, area)
+        }
+        None => Ok(()),
+    }
+}
+
+/// What becomes of the row of this number, if it is met.
+pub fn own_change(
+    rules: &Rules,
+    entry: &Area,
+    area: &Area,
+    search: &Search,
+    row: usize,
+) -> Option<Change> {
+    (rules.met)(entry, area, search, row).map(|old| Change {
         depth: rules.depth_of_met,
         table: search.table,
         row,
         new: search.image(old),
-    };
-    change::make(rules, area, &own)?;
-    (rules.between_rows)(rules, entry, area)
+    })
 }

@@ -16,7 +16,7 @@ pub fn run(_: &mut Random, report: &mut Report) {
 }
 
 /// Tells the first line in which the text of an engine differs from the stored one.
-fn compare(engine: &dyn Engine) -> Result<(), String> {
+pub fn compare(engine: &dyn Engine) -> Result<(), String> {
     let text = edges::text(engine);
     if text == STORED {
         return Ok(());

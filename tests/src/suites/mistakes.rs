@@ -1,9 +1,11 @@
 //! The tests can fail: each mistaken engine is caught by a part of them.
 
+use super::edges;
 use crate::engine::Engine;
 use crate::mistakes;
 use crate::random::Random;
 use crate::report::Report;
+use crate::trials::child_rows::ChildRows;
 use crate::trials::operations::Operations;
 use crate::trials::orphan_lists::OrphanLists;
 use crate::trials::replay::Replay;
@@ -15,7 +17,11 @@ type Part = (&'static str, fn(&dyn Engine, &mut Random) -> bool);
 const PARTS: &[Part] = &[
     ("single operations", |engine, r| {
         let mut operations = Operations::new();
-        (0..40_000).any(|_| operations.trial(engine, r).is_err())
+        (0..4_000).any(|_| operations.trial(engine, r).is_err())
+    }),
+    ("changes of parent rows", |engine, r| {
+        let mut child_rows = ChildRows::new();
+        (0..1_000).any(|_| child_rows.trial(engine, r).is_err())
     }),
     ("orphan lists", |engine, r| {
         let mut lists = OrphanLists::new();
@@ -25,6 +31,7 @@ const PARTS: &[Part] = &[
         let mut replay = Replay::new();
         (0..100).any(|_| replay.trial(engine, r).is_err())
     }),
+    ("edge cases", |engine, _| edges::compare(engine).is_err()),
     ("SQLite", |engine, r| {
         let mut alike = Alike::new();
         (0..40).any(|_| alike.trial(engine, r).is_err())

@@ -1,5 +1,6 @@
 //! The suites: each runs its tests on the built engine or program and reports them by name.
 
+mod child_rows;
 mod edges;
 mod mistakes;
 mod operations;
@@ -18,6 +19,7 @@ pub type Suite = fn(&mut Random, &mut Report);
 pub const ALL: &[(&str, Suite)] = &[
     ("schema", schema::run),
     ("operations", operations::run),
+    ("child_rows", child_rows::run),
     ("orphan_lists", orphan_lists::run),
     ("replay", replay::run),
     ("edges", edges::run),

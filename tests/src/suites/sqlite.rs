@@ -4,6 +4,7 @@ use crate::engine::Built;
 use crate::random::Random;
 use crate::report::Report;
 use crate::sqlite::database::version;
+use crate::trials::origins::Origin;
 use crate::trials::searches;
 use crate::trials::sqlite::Alike;
 
@@ -16,6 +17,23 @@ const MOST_MISCOUNTED: usize = 20;
 
 /// How many calls of kinds 10 and 11 that are refused, or that change no row, one, or more.
 const LEAST_SEARCHES: usize = 500;
+
+/// How many rows that actions change, and how many calls that show each situation below.
+const LEAST_BY_ACTIONS: usize = 500;
+const LEAST_OF_A_SITUATION: usize = 10;
+
+/// What is to be seen in actions where the order of rows plays no part.
+const SITUATIONS: &[&str] = &[
+    "taken by a key of 1 column",
+    "taken by a key of 2 columns",
+    "taken by a key of 3 columns",
+    "taken by a key of 4 columns",
+    "taken after the parent's own row",
+    "taken and keeps the old key",
+    "has the new key from the first",
+    "old values beside NULL",
+    "old values but for the last",
+];
 
 /// How many orphan lists there are to be, and how many with orphans.
 const LEAST_LISTS: usize = 10_000;
@@ -37,21 +55,23 @@ pub fn run(r: &mut Random, report: &mut Report) {
         alike.by_order,
         alike.by_limit
     );
-    println!(
-        "{} of kinds 10 and 11, {} refused",
-        alike.searches.sum() + alike.searches_refused,
-        alike.searches_refused
-    );
-    println!(
-        "{} orphan lists compared with SQLite: {} with orphans",
-        alike.lists, alike.with_orphans
-    );
     report.test("calls and orphan lists compared with SQLite", outcome);
     report.at_least("calls sent to SQLite", LEAST_CALLS, alike.calls);
     report.at_least("calls that SQLite accepts", LEAST_ACCEPTED, alike.accepted);
     let few = alike.miscounted <= MOST_MISCOUNTED;
     let outcome = few.then_some(()).ok_or(format!("{}", alike.miscounted));
     report.test("calls that SQLite accepts by a miscount are few", outcome);
+    report_searches(report, &alike);
+    report_actions(report, &alike);
+    report_lists(report, &alike);
+}
+
+fn report_searches(report: &mut Report, alike: &Alike) {
+    println!(
+        "{} of kinds 10 and 11, {} refused",
+        alike.searches.sum() + alike.searches_refused,
+        alike.searches_refused
+    );
     let changed = alike.searches.of(searches::CHANGED);
     let title = "kinds 10 and 11 of SQLite by rows changed";
     report.counts(title, LEAST_SEARCHES, &changed);
@@ -59,6 +79,22 @@ pub fn run(r: &mut Random, report: &mut Report) {
         "kinds 10 and 11 that SQLite refuses",
         LEAST_SEARCHES,
         alike.searches_refused,
+    );
+}
+
+fn report_actions(report: &mut Report, alike: &Alike) {
+    let by_actions = alike.by_actions as usize;
+    println!("{} rows changed by actions of SQLite", by_actions);
+    let name = "rows changed by actions of SQLite";
+    report.at_least(name, LEAST_BY_ACTIONS, by_actions);
+    let met = alike.walks.met[Origin::Reached as usize].of(SITUATIONS);
+    report.counts("child rows of SQLite", LEAST_OF_A_SITUATION, &met);
+}
+
+fn report_lists(report: &mut Report, alike: &Alike) {
+    println!(
+        "{} orphan lists compared with SQLite: {} with orphans",
+        alike.lists, alike.with_orphans
     );
     report.at_least("orphan lists of SQLite", LEAST_LISTS, alike.lists);
     report.at_least(

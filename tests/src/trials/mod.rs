@@ -1,5 +1,7 @@
 //! Comparisons of an engine with the model, with itself and with SQLite, on random inputs.
 
+pub mod child_rows;
+pub mod compared;
 pub mod lent_list;
 pub mod operations;
 pub mod origins;
@@ -10,3 +12,5 @@ pub mod search_situations;
 pub mod searches;
 pub mod situations;
 pub mod sqlite;
+pub mod walk_situations;
+pub mod walks;

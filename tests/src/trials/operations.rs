@@ -1,10 +1,11 @@
 //! Single operations: an engine against the model, answer, every word and every record.
 
+use super::compared;
 use super::lent_list::LentLists;
 use super::origins::Origin;
 use super::searches::Searches;
 use crate::counts::Counts;
-use crate::differences::{hex, of_call, words};
+use crate::differences::{hex, words};
 use crate::engine::Engine;
 use crate::inputs::broken::broken;
 use crate::inputs::grounds::{self, Ground};
@@ -84,19 +85,10 @@ impl Operations {
         (schema, area, call): (&[u8], &[i64], &[i64]),
         origin: Origin,
     ) -> Result<Vec<i64>, String> {
-        let (mut found_words, mut expected_words) = (area.to_vec(), area.to_vec());
-        let found = engine.call(schema, &mut found_words, call);
-        let expected = self.model.call(schema, &mut expected_words, call);
-        self.calls.add(expected.code);
-        self.searches.count((schema, area, call), expected, origin);
-        if found == expected && found_words == expected_words {
-            return Ok(expected_words);
-        }
-        Err(of_call(
-            (schema, area, call),
-            (found, &found_words),
-            (expected, &expected_words),
-        ))
+        let (answer, after) = compared::call(engine, &self.model, (schema, area, call))?;
+        self.calls.add(answer.code);
+        self.searches.count((schema, area, call), answer, origin);
+        Ok(after)
     }
 
     /// Compares the making of a fresh area, and the number of words that one has.

@@ -9,12 +9,14 @@
 //! SQLite lists orphans in a sequence of its own: they are sorted, and the engine's are taken as
 //! they come.
 
+use super::origins::Origin;
 use super::searches::{how_many, is_search};
+use super::walks::Walks;
 use crate::counts::Counts;
 use crate::differences::hex;
 use crate::engine::{Answer, Engine, Orphan};
-use crate::inputs::calls;
 use crate::inputs::grounds::{self, Ground};
+use crate::inputs::{calls, herds};
 use crate::model::area::Area;
 use crate::model::form;
 use crate::model::keys::having;
@@ -39,6 +41,10 @@ pub struct Alike {
     /// How many rows the accepted calls of kinds 10 and 11 changed, and how many were refused.
     pub searches: Counts<&'static str>,
     pub searches_refused: usize,
+    /// How many rows were changed by the actions of accepted updates and deletions of one row, and
+    /// what there was to see in actions.
+    pub by_actions: i64,
+    pub walks: Walks,
     pub by_order: usize,
     pub by_limit: usize,
     /// How many calls SQLite accepted by a miscount of its own.
@@ -56,6 +62,8 @@ impl Alike {
             accepted: 0,
             searches: Counts::default(),
             searches_refused: 0,
+            by_actions: 0,
+            walks: Walks::new(),
             by_order: 0,
             by_limit: 0,
             miscounted: 0,
@@ -66,12 +74,20 @@ impl Alike {
 
     /// One list of calls on a new database and a fresh area.
     pub fn trial(&mut self, engine: &dyn Engine, r: &mut Random) -> Outcome {
-        let ground = grounds::collisions(r);
+        let ground = if r.once_in(3) {
+            herds::ground(r)
+        } else {
+            grounds::collisions(r)
+        };
         let mut database = Database::new(&ground.schema);
         let (mut area, mut beside) = (ground.fresh(), ground.fresh());
         let mut sent = Vec::new();
         for _ in 0..r.between(20, 120) {
-            let call = calls::any(r, &ground, &beside);
+            let call = if r.once_in(3) {
+                calls::leading_to_actions(r, &ground, &beside)
+            } else {
+                calls::any(r, &ground, &beside)
+            };
             if self.left_out(&ground, &mut beside, &call) {
                 continue;
             }
@@ -110,6 +126,8 @@ impl Alike {
             self.by_order += 1;
             return true;
         }
+        self.walks
+            .count((&ground.bytes, beside, call), own.0, Origin::Reached);
         *beside = own.1;
         false
     }
@@ -128,13 +146,7 @@ impl Alike {
         let answer = engine.call(&ground.bytes, area, call);
         let form = form::read(&self.orders[0].rules, &ground.schema, call);
         let changed = database.call(&form.expect("the call is well-formed"));
-        self.calls += 1;
-        self.accepted += usize::from(changed.is_some());
-        match changed {
-            _ if !is_search(call) => {}
-            Some(changed) => self.searches.add(how_many(changed)),
-            None => self.searches_refused += 1,
-        }
+        self.count(call, changed);
         if matches!(answer.code, 20 | 21) && changed.is_some() && miscounted(ground, database) {
             self.miscounted += 1;
             return Ok(false);
@@ -154,6 +166,18 @@ impl Alike {
             }
         }
         Ok(true)
+    }
+
+    /// Counts a call, given how many rows SQLite changed if it accepted it.
+    fn count(&mut self, call: &[i64], changed: Option<i64>) {
+        self.calls += 1;
+        self.accepted += usize::from(changed.is_some());
+        match changed {
+            Some(changed) if matches!(call[0], 2 | 3) => self.by_actions += changed - 1,
+            _ if !is_search(call) => {}
+            Some(changed) => self.searches.add(how_many(changed)),
+            None => self.searches_refused += 1,
+        }
     }
 
     /// Compares the orphan list.

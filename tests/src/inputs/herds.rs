@@ -1,0 +1,169 @@
+//! Schemas and areas in which many child rows have one parent's key, or nearly.
+
+use super::areas::open_levels;
+use super::calls::{new_row, plain_call, row_call, value};
+use super::damages;
+use super::grounds::Ground;
+use crate::engine::Engine;
+use crate::model::area::Area;
+use crate::model::keys::orphan_counts;
+use crate::model::schema::{self, Row};
+use crate::model::Model;
+use crate::random::Random;
+use crate::schema_bytes::build;
+use crate::schema_bytes::records::{Key, Schema as Records, Table};
+use crate::schema_bytes::valid::low_bits;
+
+/// One or two tables with a key in their first columns, referred to by their last ones.
+pub fn ground(r: &mut Random) -> Ground {
+    let width = r.between(1, 4);
+    let columns = r.between(width + 1, 2 * width);
+    let count = r.pick(&[1, 2, 2]);
+    let values: Vec<i64> = (0..=r.between(2, 8) as i64).collect();
+    let tables = (0..count).map(|_| table(r, &values, width, columns));
+    let tables = tables.collect();
+    let keys = (0..r.pick(&[1, 2, 2, 3])).map(|_| key(r, count, width, columns));
+    let mut keys: Vec<Key> = keys.collect();
+    if count == 2 && keys.len() > 1 && r.once_in(2) {
+        tie(r, &mut keys);
+    }
+    let room = r.pick(&[16, 24, 40, 60]);
+    Ground::new(Records::new(room, tables, keys), values)
+}
+
+/// Rows of table 1 go with their parents in table 0, and are parents themselves.
+fn tie(r: &mut Random, keys: &mut [Key]) {
+    (keys[0].child, keys[0].parent) = (1, 0);
+    keys[0].on_delete = build::CASCADE;
+    keys[1].parent = 1;
+    keys[1].on_delete = r.pick(&[1, 2, 3, 3, 3]);
+}
+
+fn table(r: &mut Random, values: &[i64], width: usize, columns: usize) -> Table {
+    let mut table = build::table(r.pick(&[4, 6, 8]), columns as u8, &[low_bits(width)]);
+    table.defaults[..columns].fill_with(|| r.pick(values));
+    if r.once_in(2) {
+        table.not_null = 1 << r.between(0, columns - 1);
+    }
+    table
+}
+
+fn key(r: &mut Random, tables: usize, width: usize, columns: usize) -> Key {
+    let mut parent_columns: Vec<u8> = (0..width as u8).collect();
+    let mut child_columns: Vec<u8> = ((columns - width) as u8..columns as u8).collect();
+    r.shuffle(&mut parent_columns);
+    r.shuffle(&mut child_columns);
+    let child = (r.between(0, tables - 1) as u8, &child_columns[..]);
+    let parent = (r.between(0, tables - 1) as u8, &parent_columns[..]);
+    let mut action = || r.pick(&[1, 2, 3, 3, 4, 4, 4]);
+    let key = build::key(child, parent, action(), action());
+    if r.once_in(4) {
+        key
+    } else {
+        build::deferred(key)
+    }
+}
+
+/// The foreign key by which the rows of a herd refer to one parent, and the values of its key.
+struct Herd<'a> {
+    ground: &'a Ground,
+    key: &'a schema::Key,
+    values: Vec<i64>,
+}
+
+/// An area that inserts lead to, most of them in a transaction.
+pub fn reached(r: &mut Random, ground: &Ground) -> Vec<i64> {
+    let model = Model::of_the_paper();
+    let mut words = ground.fresh();
+    let send = |words: &mut Vec<i64>, call: Vec<i64>| {
+        model.call(&ground.bytes, words, &call);
+    };
+    if !r.once_in(4) {
+        let opening = plain_call(r.pick(&[4, 5]), 0);
+        send(&mut words, opening);
+    }
+    let herd = Herd::new(r, ground);
+    for (table, row) in herd.places(r) {
+        let new = herd.row(r, &words, table);
+        send(&mut words, row_call(1, table, row, &new));
+    }
+    words
+}
+
+/// An area with such rows, whatever NOT NULL and unique keys say, some with damaged states, with
+/// levels or without.
+pub fn filled(r: &mut Random, ground: &Ground) -> Vec<i64> {
+    let herd = Herd::new(r, ground);
+    let mut area = Area {
+        schema: &ground.schema,
+        words: ground.fresh(),
+    };
+    for (table, row) in herd.places(r) {
+        let new = herd.row(r, &area.words, table);
+        area.put_row(table, row, Some(&new));
+    }
+    if r.once_in(2) {
+        area.words = damages::damaged_rows(r, ground, &area.words);
+    }
+    let counts = orphan_counts(&Model::of_the_paper().rules, &area);
+    area.kept_mut()[..counts.len()].copy_from_slice(&counts);
+    if !r.once_in(4) {
+        open_levels(r, ground, &mut area);
+    }
+    area.words
+}
+
+impl<'a> Herd<'a> {
+    /// The parent's key is often the default of the child key.
+    fn new(r: &mut Random, ground: &'a Ground) -> Herd<'a> {
+        let keys = &ground.schema.keys;
+        let key = &keys[r.between(0, keys.len() - 1)];
+        let defaults = key.child_key(&ground.schema.tables[key.child].defaults);
+        let as_default = !r.once_in(3);
+        let value = |default: Option<i64>| match default {
+            Some(value) if as_default => value,
+            _ => r.pick(&ground.values),
+        };
+        Herd {
+            ground,
+            key,
+            values: defaults.into_iter().map(value).collect(),
+        }
+    }
+
+    /// Most rows of all tables, in any order.
+    fn places(&self, r: &mut Random) -> Vec<(usize, usize)> {
+        let tables = self.ground.schema.tables.iter().enumerate();
+        let rows = tables.flat_map(|(number, table)| (0..table.rows).map(move |row| (number, row)));
+        let mut places: Vec<(usize, usize)> = rows.collect();
+        places.retain(|_| !r.once_in(5));
+        r.shuffle(&mut places);
+        places
+    }
+
+    /// A row of the table: the parent, one of the herd, or another.
+    fn row(&self, r: &mut Random, words: &[i64], table: usize) -> Row {
+        let area = Area {
+            schema: &self.ground.schema,
+            words: words.to_vec(),
+        };
+        let mut row = new_row(r, self.ground, &area, table);
+        if table == self.key.parent && r.once_in(3) {
+            self.set(&mut row, &self.key.parent_columns);
+        }
+        if table == self.key.child && r.once_in(2) {
+            self.set(&mut row, &self.key.child_columns);
+            if r.once_in(4) {
+                let column = r.pick(&self.key.child_columns);
+                row[column] = value(r, self.ground, table, column);
+            }
+        }
+        row
+    }
+
+    fn set(&self, row: &mut Row, columns: &[usize]) {
+        for (&column, &value) in columns.iter().zip(&self.values) {
+            row[column] = Some(value);
+        }
+    }
+}

@@ -1,0 +1,56 @@
+//! Changes of rows that others refer to.
+
+use super::calls::{row_call, value};
+use super::grounds::Ground;
+use crate::model::area::Area;
+use crate::model::keys::full;
+use crate::model::schema::{Key, Row};
+use crate::random::Random;
+
+/// The deletion of a row that a child row refers to, or a change of its key. None where a child row
+/// picked at random has no parent.
+pub fn any(r: &mut Random, ground: &Ground, area: &Area) -> Option<Vec<i64>> {
+    let keys = &ground.schema.keys;
+    if keys.is_empty() {
+        return None;
+    }
+    let key = &keys[r.between(0, keys.len() - 1)];
+    let (row, parent) = referred_to(r, area, key)?;
+    if r.once_in(2) {
+        return Some(row_call(3, key.parent, row, &[]));
+    }
+    let new = with_other_key(r, ground, area, key, parent);
+    Some(row_call(2, key.parent, row, &new))
+}
+
+/// The parent of some child row.
+fn referred_to(r: &mut Random, area: &Area, key: &Key) -> Option<(usize, Row)> {
+    let mut wanted: Vec<Row> = area
+        .live_rows(key.child)
+        .iter()
+        .map(|(_, row)| key.child_key(row))
+        .collect();
+    wanted.retain(full);
+    if wanted.is_empty() {
+        return None;
+    }
+    let wanted = &wanted[r.between(0, wanted.len() - 1)];
+    let mut parents = area.live_rows(key.parent).into_iter();
+    parents.find(|(_, row)| key.parent_key(row) == *wanted)
+}
+
+/// The row with other values in its key: now and then those that some child row has, else a new one
+/// in one column.
+fn with_other_key(r: &mut Random, ground: &Ground, area: &Area, key: &Key, mut row: Row) -> Row {
+    let children = area.live_rows(key.child);
+    if r.once_in(3) && !children.is_empty() {
+        let (_, child) = &children[r.between(0, children.len() - 1)];
+        for (&column, &from) in key.parent_columns.iter().zip(&key.child_columns) {
+            row[column] = child[from];
+        }
+        return row;
+    }
+    let column = r.pick(&key.parent_columns);
+    row[column] = value(r, ground, key.parent, column);
+    row
+}

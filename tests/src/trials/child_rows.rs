@@ -1,0 +1,79 @@
+//! Changes of parent rows: an engine against the model, with what their actions do to child rows
+//! counted.
+
+use super::compared;
+use super::origins::Origin;
+use super::walks::Walks;
+use crate::counts::Counts;
+use crate::engine::Engine;
+use crate::inputs::grounds::{self, Ground};
+use crate::inputs::{areas, calls, damages, herds};
+use crate::model::Model;
+use crate::random::Random;
+
+type Outcome = Result<(), String>;
+
+/// How many calls are made on one schema, and as many on damaged copies.
+const TURNS: usize = 4;
+
+pub struct ChildRows {
+    model: Model,
+    /// How many calls had each code.
+    pub calls: Counts<i64>,
+    pub walks: Walks,
+}
+
+impl ChildRows {
+    pub fn new() -> ChildRows {
+        ChildRows {
+            model: Model::of_the_paper(),
+            calls: Counts::default(),
+            walks: Walks::new(),
+        }
+    }
+
+    /// A few calls on one schema, and beside them the same on damaged copies of the area.
+    pub fn trial(&mut self, engine: &dyn Engine, r: &mut Random) -> Outcome {
+        let (ground, mut area, origin) = start(r);
+        for _ in 0..TURNS {
+            let call = calls::leading_to_actions(r, &ground, &area);
+            let damaged = damages::damaged_rows(r, &ground, &area);
+            self.call(engine, (&ground.bytes, &damaged, &call), Origin::Damaged)?;
+            area = self.call(engine, (&ground.bytes, &area, &call), origin)?;
+        }
+        Ok(())
+    }
+
+    /// Compares a call. Gives the area after it.
+    fn call(
+        &mut self,
+        engine: &dyn Engine,
+        input: (&[u8], &[i64], &[i64]),
+        origin: Origin,
+    ) -> Result<Vec<i64>, String> {
+        let (answer, after) = compared::call(engine, &self.model, input)?;
+        self.calls.add(answer.code);
+        self.walks.count(input, answer, origin);
+        Ok(after)
+    }
+}
+
+/// A schema, an area of it, and where that comes from.
+fn start(r: &mut Random) -> (Ground, Vec<i64>, Origin) {
+    if r.once_in(8) {
+        let ground = grounds::chain(r);
+        let area = areas::chained(r, &ground);
+        return (ground, area, Origin::Reached);
+    }
+    let ground = if r.once_in(5) {
+        grounds::tangled(r)
+    } else {
+        herds::ground(r)
+    };
+    let (area, origin) = if r.between(0, 4) < 2 {
+        (herds::filled(r, &ground), Origin::Filled)
+    } else {
+        (herds::reached(r, &ground), Origin::Reached)
+    };
+    (ground, area, origin)
+}
