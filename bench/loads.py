@@ -25,18 +25,23 @@ def trims_text(horses, trims, journal, spare=0, keys=1, deferred=""):
     )
 
 
-TWO_COLUMNS = f"""\
-table horses rows 900
+TWO_COLUMNS = """\
+table horses rows {horses}
   column yard not null
   column number not null
   unique (yard, number)
-table trims rows 900
+table trims rows {trims}
   column number not null unique
   column yard not null
   column horse
-key trims.(yard, horse) -> horses.(yard, number) {CASCADE}
-journal 150
+key trims.(yard, horse) -> horses.(yard, number) {cascade}
+journal {journal}
 """
+
+
+def two_columns_text(horses, trims, journal):
+    """Horses and trims; a trim names its horse by yard and number together."""
+    return TWO_COLUMNS.format(horses=horses, trims=trims, journal=journal, cascade=CASCADE)
 
 
 def autocommit(yard, count):
@@ -65,11 +70,10 @@ def empty_transactions(yard, count):
     return yard.calls
 
 
-def herd(count):
-    """A horse with 500 trims is renumbered again and again."""
-    yard = Yard(trims_text(4, 500, 510), 5)
+def herd(yard, count):
+    """A horse with a trim in every row is renumbered again and again."""
     yard.put_horse(0, yard.new_number())
-    for trim in range(500):
+    for trim in range(yard.sizes[yard.TRIMS]):
         yard.put_trim(trim, 1)
     for _ in range(count // 40):
         yard.put_horse(0, yard.new_number())

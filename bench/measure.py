@@ -8,8 +8,8 @@ from pathlib import Path
 
 from growth import print_growth
 from inputs import Yard
-from loads import TWO_COLUMNS, autocommit, empty_transactions, herd, pedigree, sixteen_tables
-from loads import transactions, trims_text
+from loads import autocommit, empty_transactions, herd, pedigree, sixteen_tables, transactions
+from loads import trims_text, two_columns_text
 from readings import NUMBER, VALUE, Kit, readings
 from ties import ties
 
@@ -36,12 +36,15 @@ def loads(count):
     yield "readings without a sensor", readings(Kit(NUMBER, 13), Kit.take_off, count)
     yield "readings without a number", readings(Kit(VALUE, 14), Kit.statement, count)
     yield "* 32 equal keys, 900 rows", autocommit(Yard(trims_text(900, 900, 64, keys=32), 7), count)
-    yield "* constant first column", autocommit(Yard(TWO_COLUMNS, 8, yard_column=True), count)
+    two_columns = Yard(two_columns_text(900, 900, 150), 8, yard_column=True)
+    yield "* constant first column", autocommit(two_columns, count)
     yield "* J = 750, long transactions", transactions(Yard(trims_text(60, 75, 750), 9), count, 700)
     # so short that at `count` calls the program's start would be most of its time
     empty = empty_transactions(Yard(trims_text(60, 75, 750), 10), 10 * count)
     yield "* J = 750, empty transactions", empty
-    yield "* 500 rows follow a parent", herd(count)
+    yield "* 500 rows follow a parent", herd(Yard(trims_text(4, 500, 510), 5), count)
+    two_columns = Yard(two_columns_text(4, 500, 510), 16, yard_column=True)
+    yield "* 500 rows follow, two columns", herd(two_columns, count)
     yield "* one reading or none found", readings(Kit(NUMBER, 15), Kit.single_readings, count)
 
 
