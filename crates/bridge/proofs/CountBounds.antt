@@ -1,7 +1,7 @@
 -- The counted orphans of a book of the schema's shape are in range: at most the child's rows, so at most 1,024.
 -- Assumes nothing.
 use mathlib.Core.Path.{_≡_, refl, sym, _∙_, ap}
-use mathlib.Core.Bool.{Bool, true, false}
+use mathlib.Core.Bool.{Bool, true}
 use mathlib.Core.List.{List, [], _∷_, _++_, map}
 use Prim.Native.Nat.{ℕ, zero, suc, _-_, _≤_}
 use native.Mathlib.Omega.{arith}
@@ -10,8 +10,9 @@ use lib.IntN.{ℤ, pos, negsuc}
 use lib.ListN.{length, getD, replicate, length-map, length-replicate}
 use Rattle.bridge.proofs.Shapes.{Shaped, widths, shapeOf, rows-short}
 use Rattle.bridge.proofs.Tests.{and-both, passes, holds, all-cons}
+use Rattle.bridge.proofs.CountLaws.{count-bound}
 use Rattle.rules.specs.Keys.{orphan, orphans, counts}
-use Rattle.rules.specs.Lists.{𝟘, count}
+use Rattle.rules.specs.Lists.{𝟘}
 use Rattle.rules.specs.Rows.{Tables}
 use Rattle.rules.specs.State.{keptInRange}
 use Rattle.rules.specs.Values.{inRange, sameValue}
@@ -19,15 +20,6 @@ use Rattle.schema.proofs.RangeLaws.{and-left, and-right}
 use Rattle.schema.proofs.SchemaLaws.{Valid}
 use Rattle.schema.specs.Ranges.{all}
 use Rattle.schema.specs.Records.{Schema, Table, noTable, ForeignKey, tableOf}
-
-one : {A : Type 0} (p : A → Bool) (b : Bool) (xs : List A) → count p xs ≤ length xs → elim b [ true ↦ suc (count p xs) | false ↦ count p xs ] ≤ suc (length xs)
-one p true xs h = omega arith
-one p false xs h = omega arith
-
-pub count-bound : {A : Type 0} (p : A → Bool) (xs : List A) → count p xs ≤ length xs
-unfolding count
-count-bound p [] = omega arith
-count-bound p (x ∷ xs) = one p (p x) xs (count-bound p xs)
 
 pub rows-at : (ts : List Table) (tabs : Tables) → widths tabs ≡ map shapeOf ts → (t : ℕ) → length (getD tabs t []) ≤ getD ts t noTable .rows
 unfolding shapeOf

@@ -1,15 +1,24 @@
 -- A test over a list: whether one passes it, how many do.
 -- Assumes nothing.
 use mathlib.Core.Path.{_≡_, refl, sym, ap, _∙_}
-use mathlib.Core.Bool.{Bool, true, false, _||_}
+use mathlib.Core.Bool.{Bool, true, false, not, _||_}
 use mathlib.Core.List.{List, [], _∷_, _++_}
-use Prim.Native.Nat.{suc, _+_}
+use Prim.Native.Nat.{ℕ, suc, _+_, _≤_}
 use native.Mathlib.Omega.{arith}
+use borrow.Author.Tests.{ltb-true, lt-ltb}
+use lib.Dec.{ltb}
+use lib.ListN.{length}
+use Rattle.schema.specs.Ranges.{all}
 use Rattle.rules.specs.Lists.{any, count, one}
+use Rattle.bridge.proofs.Bits.{both-ways}
 
 or-assoc : (a b c : Bool) → a || (b || c) ≡ (a || b) || c
 or-assoc true b c = refl
 or-assoc false b c = refl
+
+ltb-suc : (a b : ℕ) → ltb (suc a) (suc b) ≡ ltb a b
+ltb-suc a b =
+    both-ways (ltb (suc a) (suc b)) (ltb a b) (λ h. lt-ltb a b (omega (arith, ltb-true (suc a) (suc b) h))) (λ h. lt-ltb (suc a) (suc b) (omega (arith, ltb-true a b h)))
 
 module _ {A : Type 0} (p : A → Bool) where
   pub any-cons : (x : A) (xs : List A) → any p (x ∷ xs) ≡ p x || any p xs
@@ -42,3 +51,36 @@ module _ {A : Type 0} (p : A → Bool) where
   unfolding count one
   count-none e [] = refl
   count-none e (x ∷ xs) = count-cons x xs ∙ rw (e x, count-none e xs)
+
+  pub count-bound : (xs : List A) → count p xs ≤ length xs
+  unfolding count one
+  count-bound [] = omega arith
+  count-bound (x ∷ xs) = by (p x) (count-cons x xs) (count-bound xs)
+    where
+      by : (b : Bool) → count p (x ∷ xs) ≡ one b + count p xs → count p xs ≤ length xs → count p (x ∷ xs) ≤ length (x ∷ xs)
+      by true e h = omega (arith, e, h)
+      by false e h = omega (arith, e, h)
+
+  -- whether some do, and whether not all do, by their number
+  pub count-some : (xs : List A) → ltb 0 (count p xs) ≡ any p xs
+  unfolding count any
+  count-some [] = refl
+  count-some (x ∷ xs) = by (p x) (count-some xs)
+    where
+      by : (b : Bool) → ltb 0 (count p xs) ≡ any p xs → ltb 0 (elim b [ true ↦ suc (count p xs) | false ↦ count p xs ]) ≡ elim b [ true ↦ true | false ↦ any p xs ]
+      by true e = lt-ltb 0 (suc (count p xs)) (omega arith)
+      by false e = e
+
+  pub count-not-all : (xs : List A) → ltb (count p xs) (length xs) ≡ not (all p xs)
+  unfolding count all
+  count-not-all [] = refl
+  count-not-all (x ∷ xs) = by (p x) (count-not-all xs)
+    where
+      by : (b : Bool) → ltb (count p xs) (length xs) ≡ not (all p xs) → ltb (elim b [ true ↦ suc (count p xs) | false ↦ count p xs ]) (suc (length xs)) ≡ not (elim b [ true ↦ all p xs | false ↦ false ])
+      by true e = ltb-suc (count p xs) (length xs) ∙ e
+      by false e = lt-ltb (count p xs) (suc (length xs)) (omega (arith, count-bound xs))
+
+  pub any-never : ((x : A) → p x ≡ false) → (xs : List A) → any p xs ≡ false
+  unfolding any
+  any-never e [] = refl
+  any-never e (x ∷ xs) = any-cons x xs ∙ rw (e x, any-never e xs)

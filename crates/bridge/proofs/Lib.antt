@@ -18,5 +18,6 @@ pub mod Bits
 pub mod HoldLaws
 pub mod SoundLaws
 pub mod KeyLaws
+pub mod NullKeys
 pub mod ValueLaws
 pub mod Zeros

@@ -13,6 +13,10 @@ use Rattle.schema.specs.Ranges.{all}
 pub and-both : {a b : Bool} → a ≡ true → b ≡ true → a && b ≡ true
 and-both p q = rw (p, q)
 
+pub and-none : (b : Bool) → b && false ≡ false
+and-none true = refl
+and-none false = refl
+
 -- tests that agree one by one
 pub and-same : {a b p q : Bool} → a ≡ p → b ≡ q → a && b ≡ p && q
 and-same e f = rw (e, f) refl

@@ -15,10 +15,11 @@ use Rattle.rules.specs.declared.Orphan.{Orphan}
 use Rattle.rules.specs.Lists.{count, one}
 use Rattle.rules.specs.Values.{natOf}
 use Rattle.rules.specs.Rows.{Row, Tables, rowAt, live, liveState}
-use Rattle.rules.specs.Keys.{fullKey, due, orphan, orphans}
+use Rattle.rules.specs.Keys.{orphan, orphans}
 use Rattle.rules.specs.OrphanList.{orphanTotal, recordIf, orphanRows, orphansFrom, orphanList, isOrphan, isRecord, standsBefore, rising}
 use Rattle.bridge.proofs.Tests.{and-both, all-cons, all-append}
 use Rattle.bridge.proofs.CountLaws.{count-cons, count-append}
+use Rattle.bridge.proofs.NullKeys.{vacant-orphan}
 
 abbrev at : ℕ → ℕ → Orphan
 at k r = record { key = k; row = r }
@@ -163,8 +164,8 @@ module _ (tabs : Tables) where
 
   module _ (r : ℕ) where
     no-row : (f : ForeignKey) → alone f [] ≡ false
-    unfolding orphan due fullKey live liveState natOf
-    no-row f = refl
+    unfolding live liveState natOf
+    no-row f = vacant-orphan f (getD tabs (f .parent) []) [] refl
 
     key-once : (k′ k e : ℕ) (fs : List ForeignKey) → k′ ≡ k + e → e < length fs → count (isRecord k′ r) (orphansFrom tabs k fs) ≡ one (alone (getD fs e noKey) (rowAt (getD fs e noKey .child) r tabs))
     unfolding rowAt

@@ -11,11 +11,12 @@ use lib.ListN.{length, drop, getD, length-drop, replicate, length-append, length
 use Rattle.bridge.proofs.Books.{sized, work-path, book-path}
 use Rattle.bridge.proofs.Shapes.{shaped-fresh}
 use Rattle.bridge.proofs.Tests.{and-both, passes, all-cons, all-append, all-drop}
+use Rattle.bridge.proofs.NullKeys.{vacant-orphan}
 use Rattle.bridge.proofs.Zeros.{clean-rest, clean-more}
 use Rattle.bridge.proofs.Undo.{Undoes, nine, shaped-after}
 use Rattle.laws.proofs.Back.{Good, Uses, some-open, moved, unused}
 use Rattle.rules.specs.Book.{Level, Work, Book, zeroRecords, zeroLevels, emptied, cleared, close, ended, blank, fresh, push}
-use Rattle.rules.specs.Keys.{counts, orphans, orphan, due, fullKey}
+use Rattle.rules.specs.Keys.{counts, orphans, orphan}
 use Rattle.rules.specs.Lists.{𝟘, count}
 use Rattle.rules.specs.Rows.{Row, live, liveState}
 use Rattle.rules.specs.State.{inTransaction, openerFits, keptInRange, savedInRange, placed, usesRise, undamaged}
@@ -157,9 +158,9 @@ module _ {s : Schema} {b : Book} (g : Good s b) where
 -- no row of a fresh area is live
 module _ (k : ForeignKey) (parents : List Row) where
   none-live : (n c : ℕ) → count (orphan k parents) (replicate n (replicate (suc c) 𝟘)) ≡ 0
-  unfolding count orphan due fullKey live liveState natOf
+  unfolding count live liveState natOf
   none-live zero c = refl
-  none-live (suc n) c = none-live n c
+  none-live (suc n) c = rw (vacant-orphan k parents (replicate (suc c) 𝟘) refl, count) (none-live n c)
 
   none-orphaned : (ts : List Table) (i : ℕ) → count (orphan k parents) (getD (map blank ts) i []) ≡ 0
   unfolding blank

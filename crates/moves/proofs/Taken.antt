@@ -1,57 +1,22 @@
 -- The child rows that a write strands are those that the old row's actions take, unless another parent row has the old key.
 -- Assumes nothing.
-use mathlib.Core.Path.{_≡_, refl, sym, _∙_, ap, ap₂}
+use mathlib.Core.Path.{_≡_, refl, sym, _∙_, ap}
 use mathlib.Core.Bool.{Bool, true, false, not, _&&_, false≢true}
-use mathlib.Core.List.{List, [], _∷_}
+use mathlib.Core.List.{List, []}
 use Prim.Native.Nat.{ℕ}
-use native.Mathlib.Omega.{arith}
 use lib.Dec.{eqb}
 use lib.ListN.{length, getD}
 use Rattle.schema.specs.Records.{ForeignKey}
-use Rattle.schema.proofs.RangeLaws.{and-left, and-right}
 use Rattle.rules.specs.Lists.{any, count}
-use Rattle.rules.specs.Values.{sameValue}
-use Rattle.rules.specs.Rows.{Row, Tables, live, valueAt, nullAt}
-use Rattle.rules.specs.Keys.{sameCell, sameKey, fullKey, mapsTo, due, serves, takes, sameParentKey, fires}
+use Rattle.rules.specs.Rows.{Row, Tables, live}
+use Rattle.rules.specs.Keys.{sameKey, fullKey, halfKey, mapsTo, due, serves, takes, sameParentKey, fires}
 use Rattle.bridge.proofs.CountLaws.{count-none}
-use Rattle.bridge.proofs.Bits.{same-eq}
-use Rattle.bridge.proofs.KeyLaws.{key-sym, key-first, key-rest}
+use Rattle.bridge.proofs.Tests.{and-none}
+use Rattle.bridge.proofs.KeyLaws.{key-sym, key-trans, full-right}
+use Rattle.bridge.proofs.NullKeys.{mapped-due, half-unserved}
 use Rattle.moves.specs.Movement.{pick, except, exceptIf, stranded, strandedRows}
 
--- ---- keys that equal one key equal each other
-
-module _ (x y : Row) where
-  cell-trans : (z : Row) (e c d : ℕ) → sameCell x y c d ≡ true → sameCell z x e c ≡ sameCell z y e d
-  unfolding sameCell
-  cell-trans z e c d h =
-      let values : valueAt x c ≡ valueAt y d = same-eq (valueAt x c) (valueAt y d) (and-left (sameValue (valueAt x c) (valueAt y d)) _ h) in
-      let full = and-right (sameValue (valueAt x c) (valueAt y d)) (not (nullAt x c) && not (nullAt y d)) h in
-      let left : not (nullAt x c) ≡ true = and-left (not (nullAt x c)) (not (nullAt y d)) full in
-      let right : not (nullAt y d) ≡ true = and-right (not (nullAt x c)) (not (nullAt y d)) full in
-      rw (values, left, right) refl
-
-  -- the columns of the two keys are as many
-  key-trans : (z : Row) (es cs ds : List ℕ) → length cs ≡ length ds → sameKey cs ds x y ≡ true → sameKey es cs z x ≡ sameKey es ds z y
-  unfolding sameKey
-  key-trans z [] cs ds l h = refl
-  key-trans z (e ∷ es) [] [] l h = refl
-  key-trans z (e ∷ es) [] (d ∷ ds) l h = absurd (omega arith)
-  key-trans z (e ∷ es) (c ∷ cs) [] l h = absurd (omega arith)
-  key-trans z (e ∷ es) (c ∷ cs) (d ∷ ds) l h =
-      ap₂ (λ (a b : Bool). elim a [ true ↦ b | false ↦ false ]) (cell-trans z e c d (key-first x y c d cs ds h)) (key-trans z es cs ds (omega arith) (key-rest x y c d cs ds h))
-
--- a key that equals another has no NULL
-full-left : (x y : Row) (cs ds : List ℕ) → length cs ≡ length ds → sameKey cs ds x y ≡ true → sameKey cs cs x x ≡ true
-full-left x y cs ds l h = key-trans x y x cs cs ds l h ∙ h
-
-full-right : (x y : Row) (cs ds : List ℕ) → length cs ≡ length ds → sameKey cs ds x y ≡ true → sameKey ds ds y y ≡ true
-full-right x y cs ds l h = full-left y x ds cs (sym l) (sym (key-sym x y cs ds) ∙ h)
-
 -- ---- tests in another order
-
-and-none : (b : Bool) → b && false ≡ false
-and-none true = refl
-and-none false = refl
 
 regroup : (due by y others : Bool) → due && (by && (y && others)) ≡ (y && others) && (due && by)
 regroup true true true true = refl
@@ -64,12 +29,11 @@ regroup false by true true = refl
 regroup false by true false = refl
 regroup false by false others = refl
 
--- where m makes f hold
-swap : (l f n m : Bool) → (m ≡ true → f ≡ true) → (l && f) && (n && m) ≡ n && (l && m)
-swap true f true true h = rw (h refl) refl
-swap true f false true h = and-none (true && f)
-swap true f n false h = ap (λ b. (true && f) && b) (and-none n) ∙ and-none (true && f) ∙ sym (and-none n)
-swap false f n m h = sym (and-none n)
+-- where m makes d and l the same
+swap : (d l n m : Bool) → (m ≡ true → d ≡ l) → d && (n && m) ≡ n && (l && m)
+swap d l true true h = ap (λ b. b && true) (h refl)
+swap d l false true h = and-none d
+swap d l n false h = ap (λ b. d && b) (and-none n) ∙ and-none d ∙ sym (ap (λ b. n && b) (and-none l) ∙ and-none n)
 
 count-given : (b : Bool) (p : Row → Bool) (xs : List Row) → count (λ c. b && p c) xs ≡ pick b (count p xs)
 unfolding pick
@@ -93,10 +57,8 @@ module _ (k : ForeignKey) (same-count : length (k .childColumns) ≡ length (k .
 
   -- a row that needs a parent and that x serves is one that x's actions take
   due-served : (c : Row) → due k c && serves k c x ≡ live x && takes k x c
-  unfolding due serves takes fullKey mapsTo
-  due-served c =
-      swap (live c) (sameKey (k .childColumns) (k .childColumns) c c) (live x) (sameKey (k .childColumns) (k .parentColumns) c x)
-      (full-left c x (k .childColumns) (k .parentColumns) same-count)
+  unfolding serves takes
+  due-served c = swap (due k c) (live c) (live x) (mapsTo k c x) (mapped-due k same-count c x)
 
   untaken : (c : Row) → mapsTo k c x ≡ false → live x && takes k x c ≡ false
   unfolding takes
@@ -112,6 +74,11 @@ module _ (k : ForeignKey) (same-count : length (k .childColumns) ≡ length (k .
       by c false e = and-none (live c)
 
   module _ (y : Row) (others : List Row) where
+    -- a half-filled child row is not stranded where x becomes y; nor is it mended, for what that mends is what y, becoming x, strands
+    pub half-stays : (c : Row) → halfKey (k .childColumns) c ≡ true → stranded k x y others c ≡ false
+    unfolding stranded
+    half-stays c h = ap (λ b. due k c && (b && (not (serves k c y) && not (any (serves k c) others)))) (half-unserved k same-count c h x) ∙ and-none (due k c)
+
     -- no row but x has x's key when x has become y
     abbrev gone : Bool
     gone = not (sameParentKey k x y) && not (any (sameParentKey k x) others)

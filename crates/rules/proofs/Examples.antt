@@ -9,48 +9,42 @@ use lib.ListN.{take, replicate}
 use Rattle.rules.specs.declared.Orphan.{Orphan}
 use Rattle.rules.proofs.Inputs.{schemaS, selfReferring, twoKeys, crossedKeys, pairKey, insert, update, delete, begin, savepoint, release, rollbackTo, rollback, commit, deleteWhere, updateWhere, selves, family, readings}
 use Rattle.rules.proofs.Computed.{answers, sameArea, callsLeft, listedAfter}
-use Rattle.rules.proofs.PaperCases.{Case}
-
-abbrev one : ℕ × ℕ × ℤ
-one = (0, 1, pos 0)
-
-abbrev none : ℕ × ℕ × ℤ
-none = (0, 0, pos 0)
+use Rattle.rules.proofs.PaperCases.{Case, none, one, refused}
 
 unfoldable pub examples : List Case
 unfolding schemaS selfReferring twoKeys pairKey family selves insert update delete begin savepoint release rollbackTo rollback commit
 examples =
     -- "CASCADE as key 0 and RESTRICT as key 1 on one child: accepted; numbers swapped: 18": RESTRICT is not held until the end
     record { schema = twoKeys 4 1; sent = family; answered = one ∷ one ∷ (0, 2, pos 0) ∷ [] }
-    ∷ record { schema = twoKeys 1 4; sent = family; answered = one ∷ one ∷ (18, 0, pos 0) ∷ [] }
+    ∷ record { schema = twoKeys 1 4; sent = family; answered = one ∷ one ∷ refused 18 ∷ [] }
     ∷ record { schema = twoKeys 2 0; sent = family; answered = one ∷ one ∷ (0, 2, pos 0) ∷ [] }
-    ∷ record { schema = twoKeys 0 0; sent = family; answered = one ∷ one ∷ (20, 0, pos 0) ∷ [] }
+    ∷ record { schema = twoKeys 0 0; sent = family; answered = one ∷ one ∷ refused 20 ∷ [] }
     -- no action after an update that leaves the key equal
     ∷ record {
       schema = twoKeys 1 1;
       sent = take 2 family ++ (update 0 0 0 (pos 7 ∷ []) ∷ update 0 0 0 (pos 8 ∷ []) ∷ []);
-      answered = one ∷ one ∷ one ∷ (18, 0, pos 0) ∷ [];
+      answered = one ∷ one ∷ one ∷ refused 18 ∷ [];
     }
-    -- a composite key with one NULL is no orphan
+    -- a composite key with one NULL is no orphan under MATCH SIMPLE
     ∷ record {
-      schema = pairKey 0;
+      schema = pairKey 0 0 0;
       sent = insert 1 0 2 (pos 7 ∷ []) ∷ insert 1 1 0 (pos 7 ∷ pos 8 ∷ []) ∷ [];
-      answered = one ∷ (20, 0, pos 0) ∷ [];
+      answered = one ∷ refused 20 ∷ [];
     }
     -- a unique key with NULL equals none
     ∷ record {
-      schema = pairKey 0;
+      schema = pairKey 0 0 0;
       sent = insert 0 0 2 (pos 7 ∷ []) ∷ insert 0 1 2 (pos 7 ∷ []) ∷ update 0 0 0 (pos 7 ∷ pos 8 ∷ []) ∷ update 0 1 0 (pos 7 ∷ pos 8 ∷ []) ∷ [];
-      answered = one ∷ one ∷ one ∷ (17, 0, pos 0) ∷ [];
+      answered = one ∷ one ∷ one ∷ refused 17 ∷ [];
     }
     -- a rollback to a level restores its kept numbers
     ∷ record {
       schema = schemaS;
       sent = savepoint ∷ insert 1 0 0 (pos 1 ∷ pos 5 ∷ []) ∷ release 1 ∷ rollbackTo 1 ∷ release 1 ∷ [];
-      answered = none ∷ (0, 1, pos 1) ∷ (21, 0, pos 0) ∷ (0, 1, negsuc 0) ∷ none ∷ [];
+      answered = none ∷ (0, 1, pos 1) ∷ refused 21 ∷ (0, 1, negsuc 0) ∷ none ∷ [];
     }
     -- "Nine levels open; the tenth 13."
-    ∷ record { schema = schemaS; sent = replicate 10 savepoint; answered = replicate 9 none ++ ((13, 0, pos 0) ∷ []) }
+    ∷ record { schema = schemaS; sent = replicate 10 savepoint; answered = replicate 9 none ++ (refused 13 ∷ []) }
     ∷ []
 
 pub examples-hold : map (λ (c : Case). answers (c .schema) (c .sent)) examples ≡ map (λ (c : Case). c .answered) examples

@@ -11,10 +11,15 @@ use Rattle.rules.specs.Lists.{padded}
 unfoldable pub half : ℕ → List ℕ
 half n = n % 256 ∷ n / 256 ∷ []
 
--- a table without defaults: rows, columns, NOT NULL mask, one unique-key mask
-unfoldable pub tableBytes : ℕ → ℕ → ℕ → ℕ → List ℕ
+-- a table: rows, columns, NOT NULL mask, one unique-key mask, mask of the columns whose default is NULL; the other defaults are 0
+unfoldable nullDefaults : ℕ → ℕ → ℕ → ℕ → ℕ → List ℕ
 unfolding half
-tableBytes rows columns notNull unique = half rows ++ (columns ∷ notNull ∷ unique ∷ replicate 75 0)
+nullDefaults rows columns notNull unique null = half rows ++ (columns ∷ notNull ∷ unique ∷ 0 ∷ 0 ∷ 0 ∷ null ∷ replicate 71 0)
+
+-- a table whose defaults are 0
+unfoldable pub tableBytes : ℕ → ℕ → ℕ → ℕ → List ℕ
+unfolding nullDefaults
+tableBytes rows columns notNull unique = nullDefaults rows columns notNull unique 0
 
 -- a foreign key of one column: child table and column, parent table and column, deferred, on delete, on update
 unfoldable pub keyBytes : ℕ → ℕ → ℕ → ℕ → ℕ → ℕ → ℕ → List ℕ
@@ -54,12 +59,19 @@ unfoldable pub crossedKeys : List ℕ
 unfolding schemaBytes tableBytes keyBytes
 crossedKeys = schemaBytes 2 2 8 (tableBytes 2 1 1 1 ++ tableBytes 3 2 0 0 ++ keyBytes 1 1 0 0 1 0 0 ++ keyBytes 1 0 0 0 1 0 0)
 
--- a key of two columns from table 1 to table 0, with one action
-unfoldable pub pairKey : ℕ → List ℕ
-unfolding schemaBytes tableBytes
-pairKey action =
-    schemaBytes 2 1 8
-    (tableBytes 2 2 0 3 ++ tableBytes 4 2 0 0 ++ (1 ∷ 0 ∷ 0 ∷ action ∷ action ∷ 2 ∷ 0 ∷ 1 ∷ 255 ∷ 255 ∷ 0 ∷ 1 ∷ 255 ∷ 255 ∷ 0 ∷ 0 ∷ []))
+-- the two columns of table 1 for those of table 0: deferred, one action, match
+unfoldable pairBytes : ℕ → ℕ → ℕ → List ℕ
+pairBytes deferred action match = 1 ∷ 0 ∷ deferred ∷ action ∷ action ∷ 2 ∷ 0 ∷ 1 ∷ 255 ∷ 255 ∷ 0 ∷ 1 ∷ 255 ∷ 255 ∷ match ∷ 0 ∷ []
+
+-- one such key; the second child column has NULL for its default
+unfoldable pub pairKey : ℕ → ℕ → ℕ → List ℕ
+unfolding schemaBytes tableBytes nullDefaults pairBytes
+pairKey deferred action match = schemaBytes 2 1 8 (tableBytes 2 2 0 3 ++ nullDefaults 4 2 0 0 2 ++ pairBytes deferred action match)
+
+-- two such deferred keys over the same columns, of either match
+unfoldable pub eitherMatch : List ℕ
+unfolding schemaBytes tableBytes pairBytes
+eitherMatch = schemaBytes 2 2 8 (tableBytes 2 2 0 3 ++ tableBytes 4 2 0 0 ++ pairBytes 1 0 0 ++ pairBytes 1 0 1)
 
 -- ---- calls, as twelve words
 

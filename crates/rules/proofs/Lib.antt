@@ -5,3 +5,4 @@ pub mod PaperCases
 pub mod Examples
 pub mod ManyRows
 pub mod OldKey
+pub mod MatchFull

@@ -2,19 +2,11 @@
 -- Assumes nothing.
 use mathlib.Core.Path.{_≡_, refl}
 use mathlib.Core.List.{List, [], _∷_, _++_, map}
-use Prim.Native.Nat.{ℕ}
 use lib.IntN.{ℤ, pos}
 use lib.ListN.{set, take, replicate}
 use Rattle.rules.proofs.Inputs.{schemaS, selfReferring, insert, delete, deleteWhere, updateWhere, chain, readings}
 use Rattle.rules.proofs.Computed.{answers, answersWith}
-use Rattle.rules.proofs.PaperCases.{Case}
-
--- so many rows changed, no orphan more or less
-abbrev changed : ℕ → ℕ × ℕ × ℤ
-changed n = (0, n, pos 0)
-
-abbrev refused : ℕ → ℕ × ℕ × ℤ
-refused code = (code, 0, pos 0)
+use Rattle.rules.proofs.PaperCases.{Case, changed, refused}
 
 unfoldable pub manyRows : List Case
 unfolding schemaS selfReferring readings chain insert delete deleteWhere updateWhere

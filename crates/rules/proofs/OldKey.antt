@@ -4,7 +4,7 @@ use mathlib.Core.Path.{_≡_, refl}
 use mathlib.Core.Bool.{true, false}
 use mathlib.Core.List.{List, [], _∷_, _++_, map}
 use Prim.Native.Nat.{ℕ}
-use lib.IntN.{ℤ, pos}
+use lib.IntN.{pos}
 use lib.ListN.{replicate}
 use Rattle.schema.specs.Bytes.{bit}
 use Rattle.rules.specs.Values.{sameValue, natOf}
@@ -13,10 +13,7 @@ use Rattle.rules.specs.Found.{cellIs}
 use Rattle.rules.specs.KeyValues.{keyValues, holdsKey, hasKey}
 use Rattle.rules.proofs.Inputs.{selfReferring, pairKey, insert, update, delete, deleteWhere}
 use Rattle.rules.proofs.Computed.{answers}
-use Rattle.rules.proofs.PaperCases.{Case}
-
-abbrev changed : ℕ → ℕ × ℕ × ℤ
-changed n = (0, n, pos 0)
+use Rattle.rules.proofs.PaperCases.{Case, changed, refused}
 
 -- rows of two columns, by their states and values
 abbrev rows : List Row
@@ -66,11 +63,11 @@ oldKeys =
           ∷ delete 0 1
           ∷ deleteWhere 0 1 0 (pos 0)
           ∷ [];
-      answered = replicate 3 (changed 1) ++ ((20, 0, pos 0) ∷ changed 4 ∷ []);
+      answered = replicate 3 (changed 1) ++ (refused 20 ∷ changed 4 ∷ []);
     }
     -- of four child rows one has both columns; the others differ in the last, or have NULL in one
     ∷ record {
-      schema = pairKey 4;
+      schema = pairKey 0 4 0;
       sent =
           insert 0 0 0 (pos 1 ∷ pos 2 ∷ [])
           ∷ insert 0 1 0 (pos 1 ∷ pos 3 ∷ [])

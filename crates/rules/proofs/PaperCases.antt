@@ -14,8 +14,18 @@ pub record Case : Type 0 where
   pub sent : List (List ℤ)
   pub answered : Shown
 
-abbrev one : ℕ × ℕ × ℤ
-one = (0, 1, pos 0)
+-- so many rows changed, no orphan more or less
+abbrev pub changed : ℕ → ℕ × ℕ × ℤ
+changed n = (0, n, pos 0)
+
+abbrev pub refused : ℕ → ℕ × ℕ × ℤ
+refused code = (code, 0, pos 0)
+
+abbrev pub none : ℕ × ℕ × ℤ
+none = changed 0
+
+abbrev pub one : ℕ × ℕ × ℤ
+one = changed 1
 
 unfoldable pub paperCases : List Case
 unfolding schemaS selfReferring eightCalls chain selves savepoint rollbackTo delete

@@ -1,13 +1,16 @@
 -- Keys and orphans.
 -- Assumes nothing.
-use mathlib.Core.Bool.{Bool, true, false, not, _&&_}
+use mathlib.Core.Bool.{Bool, true, false, not, _&&_, _||_}
 use mathlib.Core.List.{List, [], _∷_, map}
 use Prim.Native.Nat.{ℕ, zero, suc}
 use lib.Dec.{eqb}
 use lib.IntN.{ℤ, pos}
 use lib.ListN.{getD}
 use Rattle.schema.specs.Bytes.{bit}
+use Rattle.schema.specs.Ranges.{all}
 use Rattle.schema.specs.Records.{ForeignKey, Schema}
+use Rattle.schema.specs.declared.Match.{Match}
+use Rattle.schema.specs.declared.Match.the-variants.{Simple, Full}
 use Rattle.rules.specs.Lists.{any, count, padded}
 use Rattle.rules.specs.Values.{sameValue}
 use Rattle.rules.specs.Rows.{Row, Tables, live, nullAt, valueAt}
@@ -26,6 +29,10 @@ sameKey (c ∷ cs) (d ∷ ds) x y = elim (sameCell x y c d) [ true ↦ sameKey c
 unfoldable pub fullKey : List ℕ → Row → Bool
 fullKey cs row = live row && sameKey cs cs row row
 
+-- a live row "with some but not all key columns NULL"
+unfoldable pub halfKey : List ℕ → Row → Bool
+halfKey cs row = live row && (any (nullAt row) cs && not (all (nullAt row) cs))
+
 -- the columns of a mask, from column i on (n columns)
 unfoldable pub maskColumnsFrom : ℕ → ℕ → ℕ → List ℕ
 maskColumnsFrom m i zero = []
@@ -38,15 +45,20 @@ maskColumns m = maskColumnsFrom m 0 8
 unfoldable pub mapsTo : ForeignKey → Row → Row → Bool
 mapsTo k child parent = sameKey (k .childColumns) (k .parentColumns) child parent
 
--- the child row needs a parent: "a live child row with no NULL in its child key"
+-- "Under 1, a live child row with some but not all key columns NULL is an orphan also."
+unfoldable pub halfDue : Match → List ℕ → Row → Bool
+halfDue Simple cs child = false
+halfDue Full cs child = halfKey cs child
+
+-- the child row needs a parent: "a live child row with no NULL in its child key", or one half filled under MATCH FULL
 unfoldable pub due : ForeignKey → Row → Bool
-due k child = fullKey (k .childColumns) child
+due k child = fullKey (k .childColumns) child || halfDue (k .match) (k .childColumns) child
 
 -- a "live parent row with the equal key"
 unfoldable pub serves : ForeignKey → Row → Row → Bool
 serves k child parent = live parent && mapsTo k child parent
 
--- "An orphan of a foreign key is a live child row with no NULL in its child key and no live parent row with the equal key."
+-- "An orphan of a foreign key is a live child row with no NULL in its child key and no live parent row with the equal key." A half-filled key equals none
 unfoldable pub orphan : ForeignKey → List Row → Row → Bool
 orphan k parents child = due k child && not (any (serves k child) parents)
 

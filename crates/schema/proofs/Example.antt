@@ -7,6 +7,7 @@ use lib.IntN.{pos}
 use lib.Count.{ones, onesIn}
 use lib.ListN.{replicate, set}
 use Rattle.schema.specs.declared.Action.the-variants.{Cascade}
+use Rattle.schema.specs.declared.Match.the-variants.{Simple}
 use Rattle.schema.specs.declared.SchemaAnswer.the-variants.{Accepted, Malformed, Unmatched}
 use Rattle.schema.specs.Ranges.{allFrom, anyFrom, andAll, every, listFrom}
 use Rattle.schema.specs.Records.{Schema}
@@ -40,7 +41,7 @@ schemaS =
           record { rows = 4; columns = 1; notNull = 1; uniques = 1 ∷ 0 ∷ 0 ∷ 0 ∷ []; defaultNull = 0; defaults = replicate 8 (pos 0) }
           ∷ record { rows = 4; columns = 2; notNull = 1; uniques = 1 ∷ 0 ∷ 0 ∷ 0 ∷ []; defaultNull = 0; defaults = replicate 8 (pos 0) }
           ∷ [];
-      keys = record { child = 1; parent = 0; deferred = true; onDelete = Cascade; onUpdate = Cascade; childColumns = 1 ∷ []; parentColumns = 0 ∷ [] } ∷ [];
+      keys = record { child = 1; parent = 0; deferred = true; onDelete = Cascade; onUpdate = Cascade; childColumns = 1 ∷ []; parentColumns = 0 ∷ []; match = Simple } ∷ [];
       room = 8;
     }
 
@@ -49,7 +50,7 @@ unfolding checkSchema Check.wellFormed Check.headerRules Check.startsWith Check.
 s-accepted = refl
 
 pub s-is : schemaOf bytesS ≡ schemaS
-unfolding schemaOf Fields.tableFrom Fields.keyFrom Fields.actionFrom listFrom bytesS schemaS
+unfolding schemaOf Fields.tableFrom Fields.keyFrom Fields.actionFrom Fields.matchFrom listFrom bytesS schemaS
 s-is = refl
 
 pub s-size : Sizes.areaSize schemaS ≡ 433
@@ -65,3 +66,8 @@ broken-twice = refl
 pub unmatched : checkSchema (set bytesS 177 9) ≡ Unmatched
 unfolding checkSchema Check.wellFormed Check.headerRules Check.startsWith Check.headerRest Check.tableRules Check.sizeRules Check.tableRest Check.maskRule Check.keyRules Check.codeRules Check.keyRest Check.columnRule Check.columnsRule Check.newColumn Check.parentRules Check.uniqueIs Check.maskIs Check.inMask Bytes.bit allFrom anyFrom every andAll ones onesIn bytesS
 unmatched = refl
+
+-- a match that is none
+pub match-2 : checkSchema (set bytesS 190 2) ≡ Malformed
+unfolding checkSchema Check.wellFormed Check.headerRules Check.startsWith Check.headerRest Check.tableRules Check.sizeRules Check.tableRest Check.maskRule Check.keyRules Check.codeRules Check.keyRest Check.columnRule Check.columnsRule Check.newColumn Check.parentRules Check.uniqueIs Check.maskIs Check.inMask Bytes.bit allFrom anyFrom every andAll ones onesIn bytesS
+match-2 = refl

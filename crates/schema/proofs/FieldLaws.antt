@@ -11,6 +11,7 @@ use lib.IntN.{ℤ, pos}
 use lib.ListN.{length, getD, take, drop}
 use lib.Seq.{getD-take}
 use Rattle.schema.specs.declared.Action.{Action}
+use Rattle.schema.specs.declared.Match.{Match}
 use Rattle.schema.specs.declared.SchemaAnswer.the-variants.{Accepted}
 use Rattle.schema.specs.Ranges.{listFrom}
 use Rattle.schema.specs.Bounds.{Within, Columns}
@@ -139,6 +140,10 @@ module _ (bs : List ℕ) (acc : Check.checkSchema bs ≡ Accepted) where
     pub read-on-update : {r : Action} → r ≡ Fields.actionFrom (Fields.onUpdateOf bs k) → r ≡ keyOf (schemaOf bs) k .onUpdate
     unfolding keyFrom
     read-on-update e = e ∙ sym (ap (λ (x : ForeignKey). x .onUpdate) (key-is bs k h))
+
+    pub read-match : {r : Match} → r ≡ Fields.matchFrom (Fields.matchOf bs k) → r ≡ keyOf (schemaOf bs) k .match
+    unfolding keyFrom
+    read-match e = e ∙ sym (ap (λ (x : ForeignKey). x .match) (key-is bs k h))
 
     width-is : length (keyOf (schemaOf bs) k .childColumns) ≡ Fields.widthOf bs k
     unfolding keyFrom

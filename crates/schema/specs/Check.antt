@@ -108,7 +108,7 @@ newColumn bs at i = allFrom (differ bs at i) i 0
 unfoldable pub columnsRule : List ℕ → ℕ → ℕ → Bool
 columnsRule bs at n = allFrom (newColumn bs at) n 0 && allFrom (isByte bs at 255) (4 - n) n
 
--- child table, deferred, actions, column count
+-- child table, deferred, actions, column count, match
 unfoldable pub codeRules : List ℕ → ℕ → Bool
 codeRules bs k =
     every
@@ -117,17 +117,17 @@ codeRules bs k =
     ∷ actionRule (Fields.onDeleteOf bs k)
     ∷ actionRule (Fields.onUpdateOf bs k)
     ∷ within 1 4 (Fields.widthOf bs k)
+    ∷ leb (Fields.matchOf bs k) 1
     ∷ [])
 
--- columns, zero bytes
+-- columns, zero byte
 unfoldable pub keyRest : List ℕ → ℕ → Bool
 keyRest bs k =
     every
     (allFrom (columnRule bs (Fields.keyStart bs k + 6) (Fields.columnsOf bs (Fields.childOf bs k))) (Fields.widthOf bs k) 0
     ∷ columnsRule bs (Fields.keyStart bs k + 6) (Fields.widthOf bs k)  -- child columns
     ∷ columnsRule bs (Fields.keyStart bs k + 10) (Fields.widthOf bs k)  -- parent columns
-    ∷ isByte bs (Fields.keyStart bs k) 0 14  -- two zero bytes
-    ∷ isByte bs (Fields.keyStart bs k) 0 15
+    ∷ isByte bs (Fields.keyStart bs k) 0 15  -- a zero byte
     ∷ [])
 
 unfoldable pub keyRules : List ℕ → ℕ → Bool

@@ -8,6 +8,8 @@ use lib.IntN.{ℤ}
 use Rattle.schema.specs.Bytes.{byte, half, signedWord}
 use Rattle.schema.specs.declared.Action.{Action}
 use Rattle.schema.specs.declared.Action.the-variants.{NoAction, Restrict, SetNull, SetDefault, Cascade}
+use Rattle.schema.specs.declared.Match.{Match}
+use Rattle.schema.specs.declared.Match.the-variants.{Simple, Full}
 use Rattle.schema.specs.Ranges.{listFrom}
 use Rattle.schema.specs.Records.{Table, ForeignKey, Schema}
 
@@ -93,9 +95,17 @@ childColumnOf bs k i = byte bs (keyStart bs k + 6 + i)
 abbrev pub parentColumnOf : List ℕ → ℕ → ℕ → ℕ
 parentColumnOf bs k i = byte bs (keyStart bs k + 10 + i)
 
+-- "byte 14 of a foreign key record becomes the match"
+abbrev pub matchOf : List ℕ → ℕ → ℕ
+matchOf bs k = byte bs (keyStart bs k + 14)
+
 -- 0 NO ACTION, 1 RESTRICT, 2 SET NULL, 3 SET DEFAULT, 4 CASCADE; the check refuses every other code
 unfoldable pub actionFrom : ℕ → Action
 actionFrom c = cond (eqb c 1) Restrict (cond (eqb c 2) SetNull (cond (eqb c 3) SetDefault (cond (eqb c 4) Cascade NoAction)))
+
+-- "0 as today, 1 MATCH FULL"; the check refuses every other code
+unfoldable pub matchFrom : ℕ → Match
+matchFrom c = cond (eqb c 1) Full Simple
 
 unfoldable pub keyFrom : List ℕ → ℕ → ForeignKey
 keyFrom bs k =
@@ -107,6 +117,7 @@ keyFrom bs k =
       onUpdate = actionFrom (onUpdateOf bs k);
       childColumns = listFrom (childColumnOf bs k) (widthOf bs k) 0;
       parentColumns = listFrom (parentColumnOf bs k) (widthOf bs k) 0;
+      match = matchFrom (matchOf bs k);
     }
 
 -- ---- the whole

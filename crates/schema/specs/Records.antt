@@ -7,6 +7,8 @@ use lib.IntN.{ℤ}
 use lib.ListN.{getD}
 use Rattle.schema.specs.declared.Action.{Action}
 use Rattle.schema.specs.declared.Action.the-variants.{NoAction}
+use Rattle.schema.specs.declared.Match.{Match}
+use Rattle.schema.specs.declared.Match.the-variants.{Simple}
 
 pub record Table : Type 0 where
   pub rows : ℕ
@@ -24,6 +26,7 @@ pub record ForeignKey : Type 0 where
   pub onUpdate : Action
   pub childColumns : List ℕ
   pub parentColumns : List ℕ
+  pub match : Match
 
 pub record Schema : Type 0 where
   pub tables : List Table
@@ -34,7 +37,7 @@ abbrev pub noTable : Table
 noTable = record { rows = 0; columns = 0; notNull = 0; uniques = []; defaultNull = 0; defaults = [] }
 
 abbrev pub noKey : ForeignKey
-noKey = record { child = 0; parent = 0; deferred = false; onDelete = NoAction; onUpdate = NoAction; childColumns = []; parentColumns = [] }
+noKey = record { child = 0; parent = 0; deferred = false; onDelete = NoAction; onUpdate = NoAction; childColumns = []; parentColumns = []; match = Simple }
 
 -- table t; one without rows where there is none
 abbrev pub tableOf : Schema → ℕ → Table

@@ -1,4 +1,4 @@
-// Schema bytes: the enums of the check's answer and of the actions. The definitions are in specs/, their laws in proofs/.
+// Schema bytes: the enums of the actions, of a foreign key's match and of the check's answer. The definitions are in specs/, their laws in proofs/.
 
 // What follows a deletion or a change of a parent key.
 pub enum Action {
@@ -7,6 +7,12 @@ pub enum Action {
     SetNull,
     SetDefault,
     Cascade,
+}
+
+// What NULL in a child key means. Simple: the row needs no parent. Full: all columns are NULL or none.
+pub enum Match {
+    Simple,
+    Full,
 }
 
 // What the check of schema bytes finds.

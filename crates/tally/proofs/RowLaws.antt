@@ -19,7 +19,8 @@ use Rattle.rules.specs.Book.{Work, write}
 use Rattle.bridge.specs.Fit.{workOf, Keeps}
 use Rattle.bridge.specs.Ready.{Ready}
 use Rattle.bridge.proofs.Counts.{length-counts-32}
-use Rattle.bridge.proofs.CountBounds.{count-bound, rows-at, counts-in-range}
+use Rattle.bridge.proofs.CountLaws.{count-bound}
+use Rattle.bridge.proofs.CountBounds.{rows-at, counts-in-range}
 use Rattle.bridge.proofs.RowWords.{formed-fit, row-width, rows-length, overwrite-take}
 use Rattle.bridge.proofs.Shapes.{Shaped, rows-short}
 use Rattle.bridge.proofs.KeyLaws.{orphan-same, gives-same, get-padded}
