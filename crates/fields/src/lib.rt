@@ -12,6 +12,7 @@ ghost use Rattle.schema.specs.Fields.{schemaOf};
 ghost use Rattle.schema.specs.Sizes.{tableSize, rowsSize, rowsStart, tableOffset, areaSize};
 ghost use Rattle.schema.specs.Check.{checkSchema};
 use schema::Action;
+use schema::Match;
 use schema::SchemaAnswer;
 
 // The number of tables.
@@ -168,6 +169,17 @@ pub fn on_update(bytes: &[u8], k: usize) -> Action
     ensures { λ r. ⌜ r ≡ keyOf (schemaOf (now (bytes .entry))) k .onUpdate ⌝ }
 {
     action_of(key_byte(bytes, k, 4))
+}
+
+// The match of foreign key k.
+pub fn key_match(bytes: &[u8], k: usize) -> Match
+    requires { ⌜ (checkSchema (now bytes) ≡ SchemaAnswer.Accepted) × (k < length (schemaOf (now bytes) .keys)) ⌝ }
+    ensures { λ r. ⌜ r ≡ keyOf (schemaOf (now (bytes .entry))) k .match ⌝ }
+{
+    match key_byte(bytes, k, 14) {
+        1 => Match::Full,
+        _ => Match::Simple,
+    }
 }
 
 // The number of columns of foreign key k.

@@ -88,7 +88,7 @@ fn columns_rule(s: &[u8], at: usize, n: usize) -> bool
     distinct(s, at, n) & schema_tables::all_bytes(s, at, 255, n, 4)
 }
 
-// Child table, deferred, actions and column count of foreign key k are in their ranges.
+// Child table, deferred, actions, column count and match of foreign key k are in their ranges.
 fn code_rules(s: &[u8], k: usize) -> bool
     requires { ⌜ (16 ≤ length (now s)) × (Fields.keyStart (now s) k + 16 ≤ length (now s)) ⌝ }
     ensures { λ r. ⌜ r ≡ Check.codeRules (now (s .entry)) k ⌝ }
@@ -100,6 +100,7 @@ fn code_rules(s: &[u8], k: usize) -> bool
         & action_rule(s[at + 3])
         & action_rule(s[at + 4])
         & schema_tables::is_within(1, 4, numbers::byte_at(s, at + 5))
+        & (numbers::byte_at(s, at + 14) <= 1)
 }
 
 // The rules of foreign key record k that refusal 1 names.
@@ -117,7 +118,6 @@ fn key_rules(s: &[u8], k: usize) -> bool
     column_rules(s, at + 6, columns, n)
         & columns_rule(s, at + 6, n)
         & columns_rule(s, at + 10, n)
-        & schema_tables::is_byte(s, at, 0, 14)
         & schema_tables::is_byte(s, at, 0, 15)
 }
 

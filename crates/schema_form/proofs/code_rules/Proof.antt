@@ -67,7 +67,12 @@ byte-at-requires-3 c κs = search needs
 is-within-requires : tie.Need-is-within-requires
 is-within-requires c κs = search needs
 
--- src/lib.rt:349:1
+add-byte-at-3 : tie.Need-add-byte-at-3
+add-byte-at-3 c = search needs
+
+byte-at-requires-4 : tie.Need-byte-at-requires-4
+byte-at-requires-4 c κs = search needs
+
 returns : tie.Need-returns
 unfolding codeRules every andAll
 returns c = cc
@@ -90,4 +95,6 @@ code-rules-spec =
     add-byte-at-2
     byte-at-requires-3
     is-within-requires
+    add-byte-at-3
+    byte-at-requires-4
     returns)

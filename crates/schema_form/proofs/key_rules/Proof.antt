@@ -97,17 +97,13 @@ columns-rule-requires-2 c κs = omega (arith, width-here (c .before .before .bef
 is-byte-requires : tie.Need-is-byte-requires
 is-byte-requires c κs = search needs
 
--- src/lib.rt:377:11
-is-byte-requires-2 : tie.Need-is-byte-requires-2
-is-byte-requires-2 c κs = search needs
-
 -- src/lib.rt:362:1
 returns-2 : tie.Need-returns-2
 unfolding Check.keyRest every andAll
 returns-2 c =
-    let code-rules = c .before .before .before .before .before .before .before .before .before .before .code-rules in
-    let if1 = c .before .before .before .before .before .before .before .before .before .if1 in
-    cc (key-rest (c .before .before .before .before .before .before .before .before .before .before .before .before .args .s .now) (c .before .before .before .before .before .before .before .before .before .before .before .before .args .k) (sym (code-rules .ensures) ∙ not-false _ (if1 .left)), child-here (c .before .before .before .before .before .before), width-here (c .before .before .before .before .before .before))
+    let code-rules = c .before .before .before .before .before .before .before .before .before .code-rules in
+    let if1 = c .before .before .before .before .before .before .before .before .if1 in
+    cc (key-rest (c .before .before .before .before .before .before .before .before .before .before .before .args .s .now) (c .before .before .before .before .before .before .before .before .before .before .before .args .k) (sym (code-rules .ensures) ∙ not-false _ (if1 .left)), child-here (c .before .before .before .before .before), width-here (c .before .before .before .before .before))
 
 pub key-rules-spec : {M : Type 1} → statement M
 key-rules-spec =
@@ -130,5 +126,4 @@ key-rules-spec =
     add-columns-rule-2
     columns-rule-requires-2
     is-byte-requires
-    is-byte-requires-2
     returns-2)
