@@ -3,9 +3,11 @@ ghost use mathlib.Core.Path.{_≡_};
 ghost use mathlib.Core.Bool.{true};
 ghost use mathlib.Core.List.{[]};
 ghost use Prim.Native.Nat.{_<_};
-ghost use lib.ListN.{getD, take};
+ghost use lib.ListN.{length, getD, take};
+ghost use Rattle.schema.specs.Bounds.{Columns};
 ghost use Rattle.schema.specs.Records.{tableOf, keyOf};
 ghost use Rattle.schema.specs.Fields.{schemaOf};
+ghost use Rattle.schema.specs.Check.{checkSchema};
 ghost use Rattle.rules.specs.Lists;
 ghost use Rattle.rules.specs.Keys;
 ghost use Rattle.rules.specs.Change;
@@ -14,6 +16,8 @@ ghost use Rattle.bridge.specs.Ready.{Ready, Placed};
 ghost use Rattle.rows.specs.Standing.{Standing, RowsOf, rowsIn};
 ghost use Rattle.rows.specs.KeyColumns.{KeyColumns, MaskWithin, maskBroken};
 use rows::TableRows;
+use schema::Match;
+use schema::SchemaAnswer;
 
 // ---- unique keys
 
@@ -71,6 +75,17 @@ fn is_served(
     scans::any_with_key(area, parents, key)
 }
 
+// Whether an image has half of its key filled and foreign key k counts that as an orphan.
+fn is_half_due(schema: &[u8], k: usize, image: [i64; 9], n: usize, cs: [usize; 8]) -> bool
+    requires { ⌜ (checkSchema (now schema) ≡ SchemaAnswer.Accepted) × ((k < length (schemaOf (now schema) .keys)) × Columns 9 n cs) ⌝ }
+    ensures { λ x. ⌜ x ≡ Keys.halfDue (keyOf (schemaOf (now (schema .entry))) k .match) (take n cs) image ⌝ }
+{
+    match fields::key_match(schema, k) {
+        Match::Simple => false,
+        Match::Full => rows::image_half_key(image, n, cs),
+    }
+}
+
 // Whether the image of a child row of foreign key k, of which the parent rows and the columns are given, is that of an orphan.
 pub fn is_orphan_among(
     schema: &[u8],
@@ -86,7 +101,7 @@ pub fn is_orphan_among(
     ensures { λ x. ⌜ x ≡ Keys.orphan (keyOf (schemaOf (now (schema .entry))) k) (getD (workOf (schemaOf (now (schema .entry))) (now (area .entry)) .tabs) (keyOf (schemaOf (now (schema .entry))) k .parent) []) image ⌝ }
 {
     if !rows::image_full_key(image, n, cs) {
-        return false;
+        return is_half_due(schema, k, image, n, cs);
     }
     !is_served(schema, area, k, image, parents, n, cs, ps)
 }
@@ -105,7 +120,7 @@ pub fn is_orphan_image(
     ensures { λ x. ⌜ x ≡ Keys.orphan (keyOf (schemaOf (now (schema .entry))) k) (getD (workOf (schemaOf (now (schema .entry))) (now (area .entry)) .tabs) (keyOf (schemaOf (now (schema .entry))) k .parent) []) image ⌝ }
 {
     if !rows::image_full_key(image, n, cs) {
-        return false;
+        return is_half_due(schema, k, image, n, cs);
     }
     let parents = rows::rows_of(schema, fields::parent(schema, k));
     !is_served(schema, area, k, image, parents, n, cs, ps)

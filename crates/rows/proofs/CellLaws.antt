@@ -1,6 +1,6 @@
 -- States and values of a row, by its words, and its NULL columns.
 -- Assumes nothing.
-use mathlib.Core.Path.{_≡_, refl, sym, ap, ap₂, _∙_}
+use mathlib.Core.Path.{_≡_, sym, ap, ap₂, _∙_}
 use mathlib.Core.Bool.{Bool, true, false, not, _&&_}
 use mathlib.Core.List.{List, [], _∷_}
 use Prim.Native.Nat.{ℕ, suc, _+_, _≤_, _<_}
@@ -14,14 +14,17 @@ use lib.ListN.{length, getD, take, drop, length-take, drop-of-length-le}
 use lib.Seq.{getD-take, getD-drop, drop-cons, length-take-le, take-all}
 use Rattle.schema.specs.Bounds.{Columns}
 use Rattle.schema.specs.Bytes.{bit}
+use Rattle.schema.specs.Ranges.{all}
 use Rattle.schema.specs.Records.{Table}
-use Rattle.rules.specs.Lists.{𝟘, any, upFrom}
+use Rattle.rules.specs.Lists.{𝟘, any, count, upFrom}
 use Rattle.rules.specs.Values.{natOf}
 use Rattle.rules.specs.Rows.{Row, liveState, live, nullAt, valueAt}
-use Rattle.rules.specs.Keys.{sameCell, sameKey, fullKey}
+use Rattle.rules.specs.Keys.{sameKey, fullKey, halfKey}
 use Rattle.rules.specs.Change.{notNullBroken}
 use Rattle.bridge.specs.Ready.{rowIn}
-use Rattle.bridge.proofs.Bits.{same-refl}
+use Rattle.bridge.proofs.Tests.{and-same}
+use Rattle.bridge.proofs.CountLaws.{count-some, count-not-all}
+use Rattle.bridge.proofs.NullKeys.{no-null}
 
 pub live-below : (n : ℕ) → n < 256 → false ≡ liveState n
 unfolding liveState
@@ -73,35 +76,30 @@ columns-step = part-step 0
 pub columns-end : (n : ℕ) (cs : List ℕ) (i : ℕ) → n ≤ i → drop i (take n cs) ≡ []
 columns-end n cs i h = let l : length (take n cs) ≤ i = simp length-take (omega arith) in drop-of-length-le (take n cs) l
 
--- ---- a key with no NULL
-module _ (x : Row) where
-  cell-self : (c : ℕ) → sameCell x x c c ≡ not (nullAt x c)
-  unfolding sameCell
-  cell-self c = ap (λ (b : Bool). b && (not (nullAt x c) && not (nullAt x c))) (same-refl (valueAt x c)) ∙ twice (not (nullAt x c))
-    where
-      twice : (b : Bool) → b && b ≡ b
-      twice true = refl
-      twice false = refl
+-- ---- NULL in a key
+module _ (x : Row) {s : ℕ} (e : s ≡ natOf (getD x 0 𝟘)) (cs : List ℕ) where
+  pub full-vacant : liveState s ≡ false → false ≡ fullKey cs x
+  unfolding fullKey
+  full-vacant f = let q : live x ≡ false = sym (live-is x e) ∙ f in rw q
 
-  no-null : (cs : List ℕ) → sameKey cs cs x x ≡ not (any (nullAt x) cs)
-  unfolding sameKey any
-  no-null [] = refl
-  no-null (c ∷ cs) = ap₂ (λ (a b : Bool). elim a [ true ↦ b | false ↦ false ]) (cell-self c) (no-null cs) ∙ by (nullAt x c) (any (nullAt x) cs)
-    where
-      by : (m a : Bool) → elim (not m) [ true ↦ not a | false ↦ false ] ≡ not (elim m [ true ↦ true | false ↦ a ])
-      by true a = refl
-      by false a = refl
+  pub full-live : liveState s ≡ true → not (any (λ c. bit c s) cs) ≡ fullKey cs x
+  unfolding fullKey nullAt
+  full-live f =
+      let q : live x ≡ true = sym (live-is x e) ∙ f in
+      ap (λ (z : ℕ). not (any (λ c. bit c z) cs)) e ∙ sym (no-null x cs) ∙ sym (ap (λ (b : Bool). b && sameKey cs cs x x) q)
 
-  module _ {s : ℕ} (e : s ≡ natOf (getD x 0 𝟘)) where
-    pub full-vacant : (cs : List ℕ) → liveState s ≡ false → false ≡ fullKey cs x
-    unfolding fullKey
-    full-vacant cs f = let q : live x ≡ false = sym (live-is x e) ∙ f in rw q
+  pub half-vacant : liveState s ≡ false → false ≡ halfKey cs x
+  unfolding halfKey
+  half-vacant f = let q : live x ≡ false = sym (live-is x e) ∙ f in rw q
 
-    pub full-live : (cs : List ℕ) → liveState s ≡ true → not (any (λ c. bit c s) cs) ≡ fullKey cs x
-    unfolding fullKey nullAt
-    full-live cs f =
-        let q : live x ≡ true = sym (live-is x e) ∙ f in
-        ap (λ (z : ℕ). not (any (λ c. bit c z) cs)) e ∙ sym (no-null cs) ∙ sym (ap (λ (b : Bool). b && sameKey cs cs x x) q)
+  pub half-live : liveState s ≡ true → {m : ℕ} → m ≡ count (λ c. bit c s) cs → ltb 0 m && ltb m (length cs) ≡ halfKey cs x
+  unfolding halfKey nullAt
+  half-live f {m} g =
+      let q : live x ≡ true = sym (live-is x e) ∙ f in
+      let nulls : m ≡ count (nullAt x) cs = g ∙ ap (λ (z : ℕ). count (λ c. bit c z) cs) e in
+      ap (λ (z : ℕ). ltb 0 z && ltb z (length cs)) nulls
+      ∙ and-same (count-some (nullAt x) cs) (count-not-all (nullAt x) cs)
+      ∙ sym (ap (λ (b : Bool). b && (any (nullAt x) cs && not (all (nullAt x) cs))) q)
 
 -- ---- NOT NULL
 pub broken-is : (t : Table) (new : Row) {m n s : ℕ} → m ≡ t .notNull → n ≡ t .columns → s ≡ natOf (getD new 0 𝟘) → any (λ (c : ℕ). bit c m && bit c s) (upFrom 0 n) ≡ notNullBroken t new

@@ -76,6 +76,44 @@ pub fn image_full_key(image: [i64; 9], n: usize, cs: [usize; 8]) -> bool
     !some_null(state, n, cs)
 }
 
+// Bit i of a mask as a number.
+fn bit_number(i: usize, m: usize) -> usize
+    requires { ⌜ i < 64 ⌝ }
+    ensures { λ x. ⌜ (x ≡ Lists.one (bit i m)) × (x ≤ 1) ⌝ }
+{
+    if numbers::bit_of(i, m) {
+        return 1;
+    }
+    0
+}
+
+// How many of n columns are NULL, by the state.
+fn null_columns(state: usize, n: usize, cs: [usize; 8]) -> usize
+    requires { ⌜ Columns 9 n cs ⌝ }
+    ensures { λ x. ⌜ x ≡ Lists.count (λ c. bit c state) (take n cs) ⌝ }
+{
+    let mut m = 0;
+    let mut i = 0;
+    while i < n {
+        m += bit_number(cs[i], state);
+        i += 1;
+    }
+    m
+}
+
+// Whether an image is live and has some but not all columns of its key NULL.
+pub fn image_half_key(image: [i64; 9], n: usize, cs: [usize; 8]) -> bool
+    requires { ⌜ Columns 9 n cs ⌝ }
+    ensures { λ x. ⌜ x ≡ Keys.halfKey (take n cs) image ⌝ }
+{
+    let state = words::nat_of(image[0]);
+    if !is_live(state) {
+        return false;
+    }
+    let nulls = null_columns(state, n, cs);
+    0 < nulls && nulls < n
+}
+
 // ---- sought keys
 
 // The values of an image in n columns, at the start of an array.
@@ -213,17 +251,6 @@ pub fn rows_of(schema: &[u8], t: usize) -> TableRows
 }
 
 // ---- unique
-
-// Bit i of a mask as a number.
-fn bit_number(i: usize, m: usize) -> usize
-    requires { ⌜ i < 64 ⌝ }
-    ensures { λ x. ⌜ (x ≡ Lists.one (bit i m)) × (x ≤ 1) ⌝ }
-{
-    if numbers::bit_of(i, m) {
-        return 1;
-    }
-    0
-}
 
 // How many columns a mask has.
 pub fn mask_count(m: usize) -> usize

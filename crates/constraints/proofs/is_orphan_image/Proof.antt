@@ -3,16 +3,26 @@ use Prim.Native.Nat.{ℕ}
 use borrow.Author.Needs.{needs}
 use borrow.Author.Tests.{not-false}
 use Rattle.rows.specs.Standing.{RowsOf}
+use Rattle.schema.proofs.FieldLaws.{same-width}
 use Rattle.rows.proofs.TableLaws.{child-wide}
-use Rattle.constraints.proofs.ServedLaws.{orphan-undue, orphan-due}
+use Rattle.constraints.proofs.ServedLaws.{orphan-half, orphan-full}
 use Rattle.constraints.proofs.is_orphan_image.Statement.{statement}
 use Rattle.constraints.proofs.is_orphan_image.Tie as tie
 
 image-full-key-requires : tie.Need-image-full-key-requires
 image-full-key-requires c κs = child-wide _ _ _ _ _ (c .before .pre .1)
 
+is-half-due-requires : tie.Need-is-half-due-requires
+is-half-due-requires c κs =
+    let columns = c .before .before .before .pre .1 in
+    (columns .accepted, (columns .key, child-wide _ _ _ _ _ columns))
+
 returns : tie.Need-returns
-returns c = orphan-undue _ (c .before .before .before .pre .1 .child-is) _ _ (c .before .image-full-key .ensures) (c .if1 .taken)
+returns c =
+    let s = c .before .before .before .before in
+    let columns = s .pre .1 in
+    let same = sym (same-width (s .args .schema .now) (columns .accepted) (s .args .k) (columns .key)) in
+    orphan-half _ (columns .child-is) _ _ (c .before .before .image-full-key .ensures) same (c .before .if1 .taken) (c .is-half-due .ensures)
 
 parent-requires : tie.Need-parent-requires
 parent-requires c κs = search needs
@@ -30,7 +40,7 @@ is-served-requires c κs =
 returns-2 : tie.Need-returns-2
 returns-2 c =
     let s = c .before .before .before .before .before .before in
-    orphan-due _ (s .pre .1 .child-is) _ _ (c .before .before .before .before .image-full-key .ensures) (c .is-served .ensures) (c .before .before .before .if1 .left)
+    orphan-full _ (s .pre .1 .child-is) _ _ (c .before .before .before .before .image-full-key .ensures) (c .is-served .ensures) (c .before .before .before .if1 .left)
 
 pub is-orphan-image-spec : {M : Type 1} → statement M
-is-orphan-image-spec = tie.close (tie.spec image-full-key-requires returns parent-requires rows-of-requires is-served-requires returns-2)
+is-orphan-image-spec = tie.close (tie.spec image-full-key-requires is-half-due-requires returns parent-requires rows-of-requires is-served-requires returns-2)
