@@ -3,6 +3,7 @@
 
 mod limits;
 mod lists;
+mod match_full;
 mod old_keys;
 mod paper;
 mod searches;
@@ -47,6 +48,7 @@ pub fn all() -> Vec<Case> {
         lists::cases(),
         searches::cases(),
         old_keys::cases(),
+        match_full::cases(),
     ]
     .into_iter()
     .flatten()

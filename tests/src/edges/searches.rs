@@ -39,7 +39,7 @@ fn delete_where(table: usize, column: usize, sought: Value) -> Step {
 }
 
 /// Sets a column of every row whose column, the second number, has the value.
-fn update_where(table: usize, column: usize, sought: Value, set: (usize, Value)) -> Step {
+pub fn update_where(table: usize, column: usize, sought: Value, set: (usize, Value)) -> Step {
     search(table, column, sought, Some(set))
 }
 

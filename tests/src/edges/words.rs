@@ -3,7 +3,7 @@
 use crate::model::area::Area;
 use crate::model::form;
 use crate::model::rules::Rules;
-use crate::model::schema::{Key, Schema, Table, Value};
+use crate::model::schema::{Key, Match, Schema, Table, Value};
 use crate::model::search::Search;
 
 pub fn schema_lines(schema: &Schema) -> Vec<String> {
@@ -39,7 +39,7 @@ fn table_words(table: &Table) -> String {
 
 fn key_words(key: &Key) -> String {
     format!(
-        "table {} {} refers to table {} {}, {}, on delete {}, on update {}",
+        "table {} {} refers to table {} {}, {}, on delete {}, on update {}{}",
         key.child,
         columns(&key.child_columns),
         key.parent,
@@ -50,7 +50,11 @@ fn key_words(key: &Key) -> String {
             "immediate"
         },
         key.on_delete.sql(),
-        key.on_update.sql()
+        key.on_update.sql(),
+        match key.matching {
+            Match::Simple => "",
+            Match::Full => ", MATCH FULL",
+        }
     )
 }
 

@@ -1,7 +1,9 @@
 //! Valid schemas on which calls are tried: small, so that keys collide.
 
+use super::half_filled;
 use crate::model::schema::Schema;
 use crate::random::Random;
+use crate::schema_bytes::build::SIMPLE;
 use crate::schema_bytes::records::{Key, Schema as Records, Table};
 use crate::schema_bytes::valid::{any_valid, four, key, low_bits, parents};
 
@@ -28,13 +30,21 @@ impl Ground {
     pub fn fresh(&self) -> Vec<i64> {
         vec![0; self.schema.area_words()]
     }
+
+    /// The same with MATCH SIMPLE in every foreign key.
+    pub fn of_match_simple(mut self) -> Ground {
+        let keys = self.records.keys.iter_mut();
+        keys.for_each(|key| key.matching = SIMPLE);
+        Ground::new(self.records, self.values)
+    }
 }
 
 /// A schema on which keys collide.
 pub fn collisions(r: &mut Random) -> Ground {
-    match r.between(0, 8) {
+    match r.between(0, 9) {
         0..=2 => tangled(r),
         3..=5 => gathered(r),
+        6 => half_filled::ground(r),
         _ => small(r),
     }
 }
@@ -100,6 +110,7 @@ fn key_mask(r: &mut Random, columns: usize) -> u8 {
 
 /// One table whose rows refer to each other, with room for chains of 17 rows and more. Its foreign
 /// key has one or two columns: it refers from those after the first column to those before the last.
+/// With two columns a chain begins with a half-filled key, so they are of MATCH SIMPLE.
 pub fn chain(r: &mut Random) -> Ground {
     let rows = r.between(18, 24);
     let width = r.between(1, 2);
@@ -121,7 +132,12 @@ pub fn chain(r: &mut Random) -> Ground {
         count: width as u8,
         child_columns: four(&[1, 2][..width]),
         parent_columns: four(&[0, 1][..width]),
-        zeros: [0; 2],
+        matching: if width == 1 {
+            r.between(0, 1) as u8
+        } else {
+            SIMPLE
+        },
+        zero: 0,
     };
     let keys = vec![key; r.pick(&[1, 1, 1, 2])];
     let room = r.pick(&[8, 16, 17, 32, 40, 40]);
@@ -165,7 +181,8 @@ fn gathered_key(r: &mut Random, tables: usize) -> Key {
         count: 1,
         child_columns: four(&[r.between(1, 2) as u8]),
         parent_columns: four(&[0]),
-        zeros: [0; 2],
+        matching: r.between(0, 1) as u8,
+        zero: 0,
     }
 }
 
@@ -229,7 +246,8 @@ fn tangled_key(
         count: width as u8,
         child_columns: four(&child_columns[..width]),
         parent_columns: four(&parent_columns),
-        zeros: [0; 2],
+        matching: r.between(0, 1) as u8,
+        zero: 0,
     }
 }
 

@@ -1,14 +1,10 @@
 //! Schemas and areas in which many child rows have one parent's key, or nearly.
 
-use super::areas::open_levels;
-use super::calls::{new_row, plain_call, row_call, value};
-use super::damages;
+use super::calls::{new_row, value};
 use super::grounds::Ground;
-use crate::engine::Engine;
+use super::populated;
 use crate::model::area::Area;
-use crate::model::keys::orphan_counts;
 use crate::model::schema::{self, Row};
-use crate::model::Model;
 use crate::random::Random;
 use crate::schema_bytes::build;
 use crate::schema_bytes::records::{Key, Schema as Records, Table};
@@ -56,7 +52,8 @@ fn key(r: &mut Random, tables: usize, width: usize, columns: usize) -> Key {
     let child = (r.between(0, tables - 1) as u8, &child_columns[..]);
     let parent = (r.between(0, tables - 1) as u8, &parent_columns[..]);
     let mut action = || r.pick(&[1, 2, 3, 3, 4, 4, 4]);
-    let key = build::key(child, parent, action(), action());
+    let mut key = build::key(child, parent, action(), action());
+    key.matching = r.between(0, 1) as u8;
     if r.once_in(4) {
         key
     } else {
@@ -71,46 +68,16 @@ struct Herd<'a> {
     values: Vec<i64>,
 }
 
-/// An area that inserts lead to, most of them in a transaction.
+/// An area with a herd that inserts lead to.
 pub fn reached(r: &mut Random, ground: &Ground) -> Vec<i64> {
-    let model = Model::of_the_paper();
-    let mut words = ground.fresh();
-    let send = |words: &mut Vec<i64>, call: Vec<i64>| {
-        model.call(&ground.bytes, words, &call);
-    };
-    if !r.once_in(4) {
-        let opening = plain_call(r.pick(&[4, 5]), 0);
-        send(&mut words, opening);
-    }
     let herd = Herd::new(r, ground);
-    for (table, row) in herd.places(r) {
-        let new = herd.row(r, &words, table);
-        send(&mut words, row_call(1, table, row, &new));
-    }
-    words
+    populated::reached(r, ground, &|r, area, table| herd.row(r, area, table))
 }
 
-/// An area with such rows, whatever NOT NULL and unique keys say, some with damaged states, with
-/// levels or without.
+/// An area with a herd, whatever NOT NULL and unique keys say.
 pub fn filled(r: &mut Random, ground: &Ground) -> Vec<i64> {
     let herd = Herd::new(r, ground);
-    let mut area = Area {
-        schema: &ground.schema,
-        words: ground.fresh(),
-    };
-    for (table, row) in herd.places(r) {
-        let new = herd.row(r, &area.words, table);
-        area.put_row(table, row, Some(&new));
-    }
-    if r.once_in(2) {
-        area.words = damages::damaged_rows(r, ground, &area.words);
-    }
-    let counts = orphan_counts(&Model::of_the_paper().rules, &area);
-    area.kept_mut()[..counts.len()].copy_from_slice(&counts);
-    if !r.once_in(4) {
-        open_levels(r, ground, &mut area);
-    }
-    area.words
+    populated::filled(r, ground, &|r, area, table| herd.row(r, area, table))
 }
 
 impl<'a> Herd<'a> {
@@ -131,23 +98,9 @@ impl<'a> Herd<'a> {
         }
     }
 
-    /// Most rows of all tables, in any order.
-    fn places(&self, r: &mut Random) -> Vec<(usize, usize)> {
-        let tables = self.ground.schema.tables.iter().enumerate();
-        let rows = tables.flat_map(|(number, table)| (0..table.rows).map(move |row| (number, row)));
-        let mut places: Vec<(usize, usize)> = rows.collect();
-        places.retain(|_| !r.once_in(5));
-        r.shuffle(&mut places);
-        places
-    }
-
     /// A row of the table: the parent, one of the herd, or another.
-    fn row(&self, r: &mut Random, words: &[i64], table: usize) -> Row {
-        let area = Area {
-            schema: &self.ground.schema,
-            words: words.to_vec(),
-        };
-        let mut row = new_row(r, self.ground, &area, table);
+    fn row(&self, r: &mut Random, area: &Area, table: usize) -> Row {
+        let mut row = new_row(r, self.ground, area, table);
         if table == self.key.parent && r.once_in(3) {
             self.set(&mut row, &self.key.parent_columns);
         }

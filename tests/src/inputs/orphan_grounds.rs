@@ -5,7 +5,7 @@ use super::grounds::Ground;
 use crate::random::Random;
 use crate::schema_bytes::build;
 use crate::schema_bytes::records::{Key, Schema as Records, Table};
-use crate::schema_bytes::valid::{key, parents};
+use crate::schema_bytes::valid::{key, low_bits, parents};
 
 /// Up to four tables. As many values as a table can have rows: some rows have parents, some none.
 pub fn many_keys(r: &mut Random) -> Ground {
@@ -21,26 +21,31 @@ pub fn many_keys(r: &mut Random) -> Ground {
     Ground::new(Records::new(60, tables, keys), values)
 }
 
-/// A table whose first column is a unique key, and sometimes the first two are one.
+/// A table whose first column is a unique key, and sometimes the first two or all are one.
 fn table(r: &mut Random, most_rows: usize) -> Table {
     let rows = if r.once_in(2) {
         most_rows
     } else {
         r.between(1, most_rows)
     };
-    let columns = r.between(2, 4) as u8;
-    let unique: &[u8] = r.pick(&[&[1], &[1, 3], &[3, 1]]);
-    build::table(rows as u16, columns, unique)
+    let columns = r.between(2, 4);
+    let unique = r.pick(&[[1, 0], [1, 3], [3, 1], [low_bits(columns), 1]]);
+    build::table(rows as u16, columns as u8, &unique)
 }
 
-/// Foreign keys between any tables, some of them declared again under another number.
+/// Foreign keys between any tables, some of them declared again under another number, with either
+/// match.
 fn keys(r: &mut Random, tables: &[Table]) -> Vec<Key> {
     let parents = parents(tables);
     let all_deferred = r.once_in(2);
     let mut keys: Vec<Key> = Vec::new();
     for number in 0..r.pick(&[0, 1, 2, 3, 4, 6, 10, 32]) {
         let mut new = if number > 0 && r.once_in(4) {
-            keys[r.between(0, number - 1)].clone()
+            let again = keys[r.between(0, number - 1)].clone();
+            Key {
+                matching: r.between(0, 1) as u8,
+                ..again
+            }
         } else {
             key(r, tables, &parents)
         };

@@ -1,7 +1,7 @@
 //! Mistakes in keys, orphans and referential actions.
 
 use super::Mistake;
-use crate::model::keys::{full, having};
+use crate::model::keys::{full, half_filled, having, orphan};
 use crate::model::schema::Action;
 use crate::model::walk;
 
@@ -13,7 +13,9 @@ pub const ALL: &[Mistake] = &[
         },
     ),
     ("a composite key with one NULL counted", |rules| {
-        rules.asks = |key| key.iter().any(|value| value.is_some());
+        rules.orphan = |key, child_key, parent_keys| {
+            half_filled(child_key) || orphan(key, child_key, parent_keys)
+        };
     }),
     ("RESTRICT held until commit", |rules| {
         rules.action = |key, deletion| match walk::action(key, deletion) {

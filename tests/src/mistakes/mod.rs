@@ -2,8 +2,10 @@
 //! that are worth nothing. The tests must tell each from the paper's.
 
 mod actions;
+mod match_full;
 mod old_key;
 mod orphan_list;
+mod other_bytes;
 mod refusals;
 mod searches;
 mod transactions;
@@ -16,11 +18,15 @@ use crate::model::Model;
 /// A name, and the change of the rules.
 pub type Mistake = (&'static str, fn(&mut Rules));
 
+/// An engine with its name.
+pub type Named = (&'static str, Box<dyn Engine>);
+
 /// The engines with their names.
-pub fn all() -> Vec<(&'static str, Box<dyn Engine>)> {
+pub fn all() -> Vec<Named> {
     let lists = [
         actions::ALL,
         old_key::ALL,
+        match_full::ALL,
         refusals::ALL,
         transactions::ALL,
         orphan_list::ALL,
@@ -31,5 +37,6 @@ pub fn all() -> Vec<(&'static str, Box<dyn Engine>)> {
         change(&mut model.rules);
         (name, Box::new(model) as Box<dyn Engine>)
     });
-    misread.chain(worthless::all()).collect()
+    let readings = match_full::READINGS.iter().map(other_bytes::engine);
+    misread.chain(readings).chain(worthless::all()).collect()
 }

@@ -26,8 +26,8 @@ pub const ALL: &[Mistake] = &[
         };
     }),
     ("the list by child table, then by key", |rules| {
-        rules.listed = |schema, mut orphans| {
-            orphans.sort_by_key(|orphan| schema.keys[orphan.foreign_key as usize].child);
+        rules.listed = |area, mut orphans| {
+            orphans.sort_by_key(|orphan| area.schema.keys[orphan.foreign_key as usize].child);
             orphans
         };
     }),
@@ -38,16 +38,16 @@ pub const ALL: &[Mistake] = &[
         };
     }),
     ("a row under two keys listed once", |rules| {
-        rules.listed = |schema, mut orphans| {
+        rules.listed = |area, mut orphans| {
             let mut places = BTreeSet::new();
-            let child = |orphan: &Orphan| schema.keys[orphan.foreign_key as usize].child;
+            let child = |orphan: &Orphan| area.schema.keys[orphan.foreign_key as usize].child;
             orphans.retain(|orphan| places.insert((child(orphan), orphan.row)));
             orphans
         };
     }),
     ("the last key's orphans not listed", |rules| {
-        rules.listed = |schema, mut orphans| {
-            orphans.retain(|orphan| orphan.foreign_key as usize + 1 < schema.keys.len());
+        rules.listed = |area, mut orphans| {
+            orphans.retain(|orphan| orphan.foreign_key as usize + 1 < area.schema.keys.len());
             orphans
         };
     }),

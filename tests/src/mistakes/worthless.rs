@@ -1,5 +1,6 @@
 //! The paper's worthless engines that no single rule makes.
 
+use super::Named;
 use crate::engine::{Answer, Engine, Listed, Orphan};
 use crate::model::Model;
 
@@ -8,8 +9,6 @@ struct Worthless {
     model: Model,
     call: fn(&Model, &[u8], &mut [i64], &[i64]) -> Answer,
 }
-
-type Named = (&'static str, Box<dyn Engine>);
 
 pub fn all() -> Vec<Named> {
     vec![

@@ -2,7 +2,7 @@
 
 use super::area::Area;
 use super::rules::Rules;
-use super::schema::{Key, Row};
+use super::schema::{Key, Match, Row};
 use std::collections::BTreeSet;
 
 /// Whether no value of the key is NULL.
@@ -10,9 +10,25 @@ pub fn full(key: &Row) -> bool {
     key.iter().all(|value| value.is_some())
 }
 
+/// Whether every value of the key is NULL.
+pub fn empty(key: &Row) -> bool {
+    key.iter().all(|value| value.is_none())
+}
+
+/// Whether some but not all values of the key are NULL.
+pub fn half_filled(key: &Row) -> bool {
+    !full(key) && !empty(key)
+}
+
 /// Whether two keys are equal. NULL equals nothing.
 pub fn equal(one: &Row, other: &Row) -> bool {
     full(one) && one == other
+}
+
+/// Whether two keys are equal in every column in which the first is not NULL.
+pub fn equal_where_filled(one: &Row, other: &Row) -> bool {
+    let mut pairs = one.iter().zip(other);
+    pairs.all(|(one, other)| one.is_none() || one == other)
 }
 
 /// The child rows that have this key, rising.
@@ -23,18 +39,22 @@ pub fn having(area: &Area, key: &Key, wanted: &Row) -> Vec<usize> {
         .collect()
 }
 
+/// Whether a live row with this child key is an orphan, given the keys of the live parent rows.
+pub fn orphan(key: &Key, child_key: &Row, parent_keys: &BTreeSet<Row>) -> bool {
+    match key.matching {
+        Match::Full if half_filled(child_key) => true,
+        _ => full(child_key) && !parent_keys.contains(child_key),
+    }
+}
+
 /// The child rows that are orphans of a foreign key, rising.
 pub fn orphans(rules: &Rules, area: &Area, key: usize) -> Vec<usize> {
     let key = &area.schema.keys[key];
     let parents = area.live_rows(key.parent).into_iter();
-    let served: BTreeSet<Row> = parents.map(|(_, row)| key.parent_key(&row)).collect();
+    let parent_keys: BTreeSet<Row> = parents.map(|(_, row)| key.parent_key(&row)).collect();
     let children = area.live_rows(key.child).into_iter();
-    let orphan = |row: &Row| {
-        let wanted = key.child_key(row);
-        (rules.asks)(&wanted) && !served.contains(&wanted)
-    };
     children
-        .filter(|(_, row)| orphan(row))
+        .filter(|(_, row)| (rules.orphan)(key, &key.child_key(row), &parent_keys))
         .map(|(number, _)| number)
         .collect()
 }

@@ -12,7 +12,7 @@ pub fn orphans(rules: &Rules, area: &Area) -> Vec<Orphan> {
         rows.map(move |row| Orphan::new(key, row))
     };
     let all = (0..area.schema.keys.len()).flat_map(of_key).collect();
-    (rules.listed)(area.schema, all)
+    (rules.listed)(area, all)
 }
 
 /// Writes the orphans into a lent list and gives their number, or refusal 22.

@@ -13,6 +13,7 @@ use super::statement::{self, End, Outcome};
 use super::transaction;
 use super::walk::{self, Walk};
 use crate::engine::Orphan;
+use std::collections::BTreeSet;
 
 #[derive(Clone)]
 pub struct Rules {
@@ -24,8 +25,8 @@ pub struct Rules {
     pub checks: Vec<Check>,
     /// The checks at the end of a statement, in order, each for all keys: refusals 19 and 20.
     pub ends: Vec<End>,
-    /// Whether a child key asks for a parent.
-    pub asks: fn(&Row) -> bool,
+    /// Whether a live row is an orphan: of which key, its child key, the keys of live parent rows.
+    pub orphan: fn(&Key, &Row, &BTreeSet<Row>) -> bool,
     /// Whether a child key is the parent key.
     pub equal: fn(&Row, &Row) -> bool,
     /// Whether actions follow a change of this parent key to that one, or to none by a deletion.
@@ -77,7 +78,7 @@ pub struct Rules {
     /// Gives the kept numbers back that a level saved.
     pub restore: fn(&mut Area, usize),
     /// What the list makes of all orphans, which are given by foreign key, then by child row.
-    pub listed: fn(&Schema, Vec<Orphan>) -> Vec<Orphan>,
+    pub listed: fn(&Area, Vec<Orphan>) -> Vec<Orphan>,
     /// Whether so many orphans fit into a list of so many records.
     pub fits: fn(usize, usize) -> bool,
     /// Writes the orphans into a list that they fit into.
@@ -95,7 +96,7 @@ impl Rules {
             area_forms: damage::FORMS.to_vec(),
             checks: change::CHECKS.to_vec(),
             ends: statement::ENDS.to_vec(),
-            asks: keys::full,
+            orphan: keys::orphan,
             equal: keys::equal,
             fires: walk::fires,
             action: walk::action,

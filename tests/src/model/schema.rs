@@ -37,6 +37,25 @@ impl Action {
     }
 }
 
+/// What becomes of a child row with NULL in some but not all columns of the key.
+#[derive(Clone, Copy, PartialEq)]
+pub enum Match {
+    /// It is no orphan.
+    Simple,
+    /// It is an orphan.
+    Full,
+}
+
+impl Match {
+    /// The match as SQL says it.
+    pub fn sql(self) -> &'static str {
+        match self {
+            Match::Simple => "MATCH SIMPLE",
+            Match::Full => "MATCH FULL",
+        }
+    }
+}
+
 pub struct Key {
     pub child: usize,
     pub parent: usize,
@@ -45,6 +64,7 @@ pub struct Key {
     pub on_update: Action,
     pub child_columns: Vec<usize>,
     pub parent_columns: Vec<usize>,
+    pub matching: Match,
 }
 
 pub struct Schema {
@@ -126,6 +146,10 @@ fn key(s: View, k: usize) -> Key {
         on_update: action(s.key_byte(k, 4)),
         child_columns: numbers(s.child_columns(k).0),
         parent_columns: numbers(s.parent_columns(k).0),
+        matching: match s.key_byte(k, 14) {
+            0 => Match::Simple,
+            _ => Match::Full,
+        },
     }
 }
 

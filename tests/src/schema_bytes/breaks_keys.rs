@@ -70,8 +70,21 @@ pub const KEYS: &[Break] = &[
             key.parent = r.edged(tables, 255) as u8;
         }
     }),
-    ("a zero byte of a key not 0", 1, |s, r| {
-        s.any_key(r).zeros[r.between(0, 1)] = r.edged(1, 255) as u8;
+    ("a match of 2", 1, |s, r| s.any_key(r).matching = 2),
+    ("a match above 1", 1, |s, r| {
+        s.any_key(r).matching = r.edged(2, 255) as u8;
+    }),
+    ("a match above 1 in the last key only", 1, |s, r| {
+        if let [.., last] = &mut s.keys[..] {
+            last.matching = r.edged(2, 255) as u8;
+        }
+    }),
+    ("the zero byte of a key not 0", 1, |s, r| {
+        s.any_key(r).zero = r.edged(1, 255) as u8;
+    }),
+    ("match and zero byte exchanged", 1, |s, r| {
+        let key = s.any_key(r);
+        (key.matching, key.zero) = (key.zero, key.matching);
     }),
 ];
 

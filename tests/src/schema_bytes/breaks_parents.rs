@@ -48,7 +48,12 @@ pub const PARENTS: &[Break] = &[
     ("1 and 2 in one key", 1, |s, r| {
         let key = s.any_key(r);
         key.parent = 255;
-        key.zeros[1] = r.edged(1, 255) as u8;
+        key.zero = r.edged(1, 255) as u8;
+    }),
+    ("a match above 1 and 2 in one key", 1, |s, r| {
+        let key = s.any_key(r);
+        key.parent = 255;
+        key.matching = r.edged(2, 255) as u8;
     }),
     ("1 in a table and 2 in a key", 1, |s, r| {
         s.any_key(r).parent = 255;

@@ -9,6 +9,9 @@ pub const SET_NULL: u8 = 2;
 pub const SET_DEFAULT: u8 = 3;
 pub const CASCADE: u8 = 4;
 
+pub const SIMPLE: u8 = 0;
+pub const FULL: u8 = 1;
+
 /// A table with unique keys, each the columns of a mask.
 pub fn table(rows: u16, columns: u8, unique: &[u8]) -> Table {
     let mut masks = [0; 4];
@@ -24,8 +27,8 @@ pub fn table(rows: u16, columns: u8, unique: &[u8]) -> Table {
     }
 }
 
-/// An immediate foreign key: child table and columns, parent table and columns, actions upon a
-/// deletion and an update.
+/// An immediate foreign key of MATCH SIMPLE: child table and columns, parent table and columns,
+/// actions upon a deletion and an update.
 pub fn key(child: (u8, &[u8]), parent: (u8, &[u8]), on_delete: u8, on_update: u8) -> Key {
     Key {
         child: child.0,
@@ -36,12 +39,20 @@ pub fn key(child: (u8, &[u8]), parent: (u8, &[u8]), on_delete: u8, on_update: u8
         count: child.1.len() as u8,
         child_columns: four(child.1),
         parent_columns: four(parent.1),
-        zeros: [0; 2],
+        matching: SIMPLE,
+        zero: 0,
     }
 }
 
 pub fn deferred(key: Key) -> Key {
     Key { deferred: 1, ..key }
+}
+
+pub fn match_full(key: Key) -> Key {
+    Key {
+        matching: FULL,
+        ..key
+    }
 }
 
 /// Table 0 with a key in c0, and table 1 with a key in c0 that refers to it by c1. J = 16.

@@ -96,10 +96,18 @@ pub const CHANGED: &[Changed] = &[
         "distinct parent columns",
         |s, k| !parent_columns_exist(s, k) || distinct(s.parent_columns(k).0),
     ),
+    ("MATCH FULL refused", "match", |s, k| s.key_byte(k, 14) == 0),
+    ("MATCH FULL of one column refused", "match", |s, k| {
+        s.key_byte(k, 14) <= usize::from(s.count(k) > 1)
+    }),
+    ("match 2 let pass", "match", |s, k| s.key_byte(k, 14) <= 2),
+    ("the match of the first key looked at", "match", |s, _| {
+        s.key_byte(0, 14) <= 1
+    }),
     (
-        "only the last zero byte looked at",
-        "zero bytes of a key",
-        |s, k| s.key_byte(k, 15) == 0,
+        "the zero byte looked at as another match",
+        "zero byte of a key",
+        |s, k| s.key_byte(k, 15) <= 1,
     ),
     (
         "count of ones not compared",

@@ -1,6 +1,7 @@
 //! Changes of valid schemas that break no rule.
 
 use crate::schema_bytes::breaks::Break;
+use crate::schema_bytes::build::{FULL, SIMPLE};
 use crate::schema_bytes::records::{Key, Schema, Table};
 use crate::schema_bytes::valid::{four, valid};
 
@@ -32,6 +33,15 @@ pub const HARMLESS: &[Break] = &[
         let mask = s.keys[0].parent_mask();
         s.tables[usize::from(s.keys[0].parent)].unique = [1, 1, 1, mask];
     }),
+    ("the other match in one key", 0, |s, r| {
+        s.any_key(r).matching ^= 1;
+    }),
+    ("MATCH SIMPLE in every key", 0, |s, _| {
+        s.keys.iter_mut().for_each(|key| key.matching = SIMPLE);
+    }),
+    ("MATCH FULL in every key", 0, |s, _| {
+        s.keys.iter_mut().for_each(|key| key.matching = FULL);
+    }),
     ("a key that refers to its own table", 0, |s, r| {
         let key = s.any_key(r);
         key.child = key.parent;
@@ -61,7 +71,8 @@ pub fn paper() -> Schema {
         count: 1,
         child_columns: four(&[1]),
         parent_columns: four(&[0]),
-        zeros: [0; 2],
+        matching: SIMPLE,
+        zero: 0,
     };
     Schema::new(8, vec![table, child], vec![key])
 }

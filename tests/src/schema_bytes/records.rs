@@ -34,7 +34,8 @@ pub struct Key {
     pub count: u8,
     pub child_columns: [u8; 4],
     pub parent_columns: [u8; 4],
-    pub zeros: [u8; 2],
+    pub matching: u8,
+    pub zero: u8,
 }
 
 #[derive(Clone)]
@@ -141,7 +142,7 @@ impl Key {
         out.extend([self.on_delete, self.on_update, self.count]);
         out.extend(self.child_columns);
         out.extend(self.parent_columns);
-        out.extend(self.zeros);
+        out.extend([self.matching, self.zero]);
     }
 
     /// The column count.

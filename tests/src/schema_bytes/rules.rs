@@ -106,7 +106,8 @@ const KEYS: &[Rule] = &[
     ("distinct parent columns", |s, k| {
         distinct(s.parent_columns(k).0)
     }),
-    ("zero bytes of a key", |s, k| s.is_zero(s.key_at(k) + 14, 2)),
+    ("match", |s, k| s.key_byte(k, 14) <= 1),
+    ("zero byte of a key", |s, k| s.key_byte(k, 15) == 0),
 ];
 
 const PARENTS: &[Rule] = &[

@@ -125,7 +125,8 @@ fn random_keys(r: &mut Random) -> Vec<u8> {
         key.deferred = near(r, key.deferred, 2);
         key.on_delete = near(r, key.on_delete, 5);
         key.on_update = near(r, key.on_update, 5);
-        key.zeros[0] = near(r, 0, 1);
+        key.matching = near(r, key.matching, 2);
+        key.zero = near(r, 0, 1);
     }
     schema.bytes()
 }

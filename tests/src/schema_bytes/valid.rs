@@ -97,7 +97,8 @@ pub fn key(r: &mut Random, tables: &[Table], parents: &[(usize, u8)]) -> Key {
         count: count as u8,
         child_columns: four(&child_columns[..count]),
         parent_columns: four(&parent_columns),
-        zeros: [0; 2],
+        matching: r.between(0, 1) as u8,
+        zero: 0,
     }
 }
 

@@ -29,10 +29,11 @@ fn column(table: &Table, column: usize) -> String {
 
 fn foreign_key(key: &Key) -> String {
     format!(
-        "FOREIGN KEY({}) REFERENCES t{}({}) ON DELETE {} ON UPDATE {}{}",
+        "FOREIGN KEY({}) REFERENCES t{}({}) {} ON DELETE {} ON UPDATE {}{}",
         names(&key.child_columns),
         key.parent,
         names(&key.parent_columns),
+        key.matching.sql(),
         key.on_delete.sql(),
         key.on_update.sql(),
         if key.deferred {

@@ -6,6 +6,7 @@ use crate::mistakes;
 use crate::random::Random;
 use crate::report::Report;
 use crate::trials::child_rows::ChildRows;
+use crate::trials::half_filled::HalfFilled;
 use crate::trials::operations::Operations;
 use crate::trials::orphan_lists::OrphanLists;
 use crate::trials::replay::Replay;
@@ -22,6 +23,10 @@ const PARTS: &[Part] = &[
     ("changes of parent rows", |engine, r| {
         let mut child_rows = ChildRows::new();
         (0..1_000).any(|_| child_rows.trial(engine, r).is_err())
+    }),
+    ("half-filled keys", |engine, r| {
+        let mut half_filled = HalfFilled::new();
+        (0..60).any(|_| half_filled.trial(engine, r).is_err())
     }),
     ("orphan lists", |engine, r| {
         let mut lists = OrphanLists::new();

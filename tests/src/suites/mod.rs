@@ -2,6 +2,7 @@
 
 mod child_rows;
 mod edges;
+mod half_filled;
 mod mistakes;
 mod operations;
 mod orphan_lists;
@@ -20,6 +21,7 @@ pub const ALL: &[(&str, Suite)] = &[
     ("schema", schema::run),
     ("operations", operations::run),
     ("child_rows", child_rows::run),
+    ("half_filled", half_filled::run),
     ("orphan_lists", orphan_lists::run),
     ("replay", replay::run),
     ("edges", edges::run),

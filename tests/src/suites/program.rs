@@ -17,6 +17,8 @@ const STORED: &[&str] = &[
     "paper",
     "short_last_call",
     "no_unique_key",
+    "match_full",
+    "match_of_2",
     "words_8192",
     "words_8193",
 ];

@@ -1,5 +1,6 @@
 //! The check of schema bytes: the engine against the model, on damaged, valid and random slices.
 
+use crate::counts::Counts;
 use crate::differences::hex;
 use crate::engine::{Built, Engine};
 use crate::random::Random;
@@ -9,6 +10,7 @@ use crate::schema_bytes::mistakes::{self, Mistake};
 use crate::schema_bytes::rules::Rules;
 use crate::schema_bytes::slices::{Family, FAMILIES};
 use crate::schema_bytes::valid::any_valid;
+use crate::schema_bytes::view::View;
 
 /// How often each break is made.
 const BREAK_TURNS: usize = 200;
@@ -17,11 +19,24 @@ const BREAK_TURNS: usize = 200;
 const LEAST_SLICES: usize = 200_000;
 const LEAST_OF_A_CODE: usize = 1_000;
 
+/// The forms of a foreign key: its match, and how many columns it has.
+const FORMS: &[&str] = &[
+    "SIMPLE of 1",
+    "SIMPLE of 2",
+    "SIMPLE of 3",
+    "SIMPLE of 4",
+    "FULL of 1",
+    "FULL of 2",
+    "FULL of 3",
+    "FULL of 4",
+];
+
 pub fn run(r: &mut Random, report: &mut Report) {
     let mut judge = Judge {
         model: Rules::of_the_paper(),
         mistakes: mistakes::all(),
         codes: [0; 3],
+        keys: Counts::default(),
     };
     for one in breaks::all() {
         report.test(one.0, judge.run_break(&one, r));
@@ -30,6 +45,11 @@ pub fn run(r: &mut Random, report: &mut Report) {
         report.test(family.name, judge.run_family(family, r));
     }
     judge.count_codes(report);
+    report.counts(
+        "accepted foreign keys",
+        LEAST_OF_A_CODE,
+        &judge.keys.of(FORMS),
+    );
     judge.count_mistakes(report);
 }
 
@@ -40,6 +60,8 @@ struct Judge {
     mistakes: Vec<Mistake>,
     /// How many slices had the code 0, 1 or 2.
     codes: [usize; 3],
+    /// How many foreign keys of accepted slices had each form.
+    keys: Counts<&'static str>,
 }
 
 impl Judge {
@@ -78,6 +100,11 @@ impl Judge {
     fn judge(&mut self, bytes: &[u8], expected: Option<i64>, outcome: &mut Outcome) {
         let code = self.model.code(bytes);
         self.codes[code as usize] += 1;
+        if code == 0 {
+            let s = View(bytes);
+            let form = |k: usize| FORMS[4 * s.key_byte(k, 14) + s.count(k) - 1];
+            (0..s.keys()).for_each(|k| self.keys.add(form(k)));
+        }
         for mistake in self.mistakes.iter_mut().filter(|m| !m.caught) {
             mistake.caught = (mistake.code)(bytes) != code;
         }

@@ -1,9 +1,14 @@
 //! The built engine against stock SQLite.
 
-use crate::engine::Built;
+use crate::engine::{Answer, Built, Engine};
+use crate::inputs::calls::row_call;
+use crate::inputs::grounds::Ground;
+use crate::model::form::Call;
 use crate::random::Random;
 use crate::report::Report;
-use crate::sqlite::database::version;
+use crate::schema_bytes::build::{key, match_full, table, NO_ACTION};
+use crate::schema_bytes::records::Schema as Records;
+use crate::sqlite::database::{version, Database};
 use crate::trials::origins::Origin;
 use crate::trials::searches;
 use crate::trials::sqlite::Alike;
@@ -64,6 +69,24 @@ pub fn run(r: &mut Random, report: &mut Report) {
     report_searches(report, &alike);
     report_actions(report, &alike);
     report_lists(report, &alike);
+    let name = "SQLite does not enforce MATCH FULL";
+    report.test(name, match_full_passes());
+}
+
+/// A half-filled key of MATCH FULL passes in SQLite, which has MATCH SIMPLE alone: so no other match
+/// is compared.
+fn match_full_passes() -> Result<(), String> {
+    let own = match_full(key((1, &[0, 1]), (0, &[0, 1]), NO_ACTION, NO_ACTION));
+    let tables = vec![table(1, 2, &[3]), table(1, 2, &[])];
+    let ground = Ground::new(Records::new(1, tables, vec![own]), Vec::new());
+    let row = vec![Some(1), None];
+    let insert = row_call(1, 1, 0, &row);
+    let answer = Built.call(&ground.bytes, &mut ground.fresh(), &insert);
+    let changed = Database::new(&ground.schema).call(&Call::Insert(1, 0, row));
+    if (answer, changed) == (Answer::refused(20), Some(1)) {
+        return Ok(());
+    }
+    Err(format!("answer {}, rows changed {:?}", answer, changed))
 }
 
 fn report_searches(report: &mut Report, alike: &Alike) {

@@ -2,6 +2,9 @@
 
 pub mod child_rows;
 pub mod compared;
+pub mod half_filled;
+pub mod half_filled_seen;
+pub mod half_filled_situations;
 pub mod lent_list;
 pub mod operations;
 pub mod origins;

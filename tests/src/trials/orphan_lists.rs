@@ -9,6 +9,7 @@ use crate::engine::Engine;
 use crate::inputs::broken::broken;
 use crate::inputs::grounds::Ground;
 use crate::inputs::{areas, calls, damages, orphan_grounds};
+use crate::model::area::Area;
 use crate::random::Random;
 
 type Outcome = Result<(), String>;
@@ -96,7 +97,11 @@ impl OrphanLists {
             self.longest = self.longest.max(compared.orphans.len());
         }
         if matches!(compared.code, 0 | 22) {
-            let shown = situations::of(&ground.schema, &compared);
+            let area = Area {
+                schema: &ground.schema,
+                words: area.to_vec(),
+            };
+            let shown = situations::of(&area, &compared);
             let met = &mut self.met[origin as usize];
             shown.into_iter().for_each(|situation| met.add(situation));
         }

@@ -3,11 +3,12 @@
 use super::searches::is_search;
 use crate::differences::{first_words, hex};
 use crate::engine::{Answer, Engine};
-use crate::inputs::calls::{self, plain_call};
+use crate::inputs::calls::plain_call;
 use crate::inputs::grounds::{self, Ground};
-use crate::inputs::malformed;
+use crate::inputs::{half_filled_calls, malformed};
 use crate::model::area::Area;
 use crate::model::keys::orphan_counts;
+use crate::model::schema::{Key, Match, Schema};
 use crate::model::{strike, Model};
 use crate::random::Random;
 
@@ -24,6 +25,9 @@ pub struct Replay {
     pub searches_left: usize,
     /// How many lists ended inside a transaction.
     pub open: usize,
+    /// How many accepted calls wrote half-filled keys of MATCH FULL, and how many were left.
+    pub half_filling: usize,
+    pub half_filling_left: usize,
 }
 
 /// A list of calls and the answers to it.
@@ -44,6 +48,8 @@ impl Replay {
             searches: 0,
             searches_left: 0,
             open: 0,
+            half_filling: 0,
+            half_filling_left: 0,
         }
     }
 
@@ -63,7 +69,15 @@ impl Replay {
         let searches_left = left.iter().filter(|&&number| is_search(&run.calls[number]));
         self.searches_left += searches_left.count();
         self.open += usize::from(run.area[0] != 0);
+        self.count_half_filling(&ground.schema, &run, &left);
         second_run(engine, &ground, &run, &left)
+    }
+
+    fn count_half_filling(&mut self, schema: &Schema, run: &Run, left: &[usize]) {
+        let accepted = (0..run.calls.len()).filter(|&number| run.codes[number] == 0);
+        let half_filling = |number: &usize| half_fills(schema, &run.calls[*number]);
+        self.half_filling += accepted.filter(half_filling).count();
+        self.half_filling_left += left.iter().copied().filter(half_filling).count();
     }
 
     /// Runs a random list. The codes are those of the model, which runs beside; after each call the
@@ -77,7 +91,7 @@ impl Replay {
         let (mut area, mut beside) = (made_fresh(engine, ground)?, ground.fresh());
         let (mut calls, mut codes, mut answers) = (Vec::new(), Vec::new(), Vec::new());
         for _ in 0..r.between(20, 200) {
-            let mut call = calls::any(r, ground, &beside);
+            let mut call = half_filled_calls::now_and_then(r, ground, &beside);
             if r.once_in(25) {
                 call = malformed::spoiled(r, ground, call);
             }
@@ -122,6 +136,21 @@ impl Replay {
         }
         Ok(())
     }
+}
+
+/// Whether an accepted call is an insert or an update of a row with a half-filled child key of MATCH
+/// FULL.
+fn half_fills(schema: &Schema, call: &[i64]) -> bool {
+    let is_half_filled = |key: &Key| {
+        let columns = key.child_columns.iter();
+        let nulls = columns
+            .filter(|&&column| call[3] >> column & 1 == 1)
+            .count();
+        (1..key.child_columns.len()).contains(&nulls)
+    };
+    let of_table = |key: &&Key| key.child as i64 == call[1] && key.matching == Match::Full;
+    let mut keys = schema.keys.iter().filter(of_table);
+    matches!(call[0], 1 | 2) && keys.any(is_half_filled)
 }
 
 /// Sends a commit on a copy of the area. Accepted, it leaves no transaction; refused, it writes

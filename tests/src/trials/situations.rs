@@ -2,7 +2,8 @@
 
 use super::lent_list::Compared;
 use crate::engine::Orphan;
-use crate::model::schema::{Key, Schema};
+use crate::model::area::Area;
+use crate::model::schema::{Key, Match, Schema};
 use std::collections::BTreeSet;
 
 /// A list that was compared.
@@ -15,6 +16,9 @@ pub struct Seen<'a> {
     list: &'a [Orphan],
     /// The foreign keys in the list, each once.
     keys: Vec<usize>,
+    /// Those among them under which rows with half-filled keys are listed, and others.
+    half_filled: Vec<usize>,
+    filled: Vec<usize>,
 }
 
 /// A name, and whether it is to be seen in a list.
@@ -51,6 +55,19 @@ pub const SITUATIONS: &[Situation] = &[
     ("the first and the last of 1,024 rows", |s| {
         s.any_first_and_last_row(|rows| rows == 1024)
     }),
+    ("a half-filled key of 2 columns", |s| s.any_half_filled(2)),
+    ("a half-filled key of 3 columns", |s| s.any_half_filled(3)),
+    ("a half-filled key of 4 columns", |s| s.any_half_filled(4)),
+    ("half-filled and filled keys under one foreign key", |s| {
+        s.half_filled.iter().any(|key| s.filled.contains(key))
+    }),
+    ("half-filled beside MATCH SIMPLE of the same columns", |s| {
+        let beside = |full: &Key| {
+            let mut alike = s.schema.keys.iter().filter(|key| refer_alike(key, full));
+            alike.any(|key| key.matching == Match::Simple)
+        };
+        s.half_filled.iter().any(|&number| beside(s.key(number)))
+    }),
     ("no foreign key", |s| s.schema.keys.is_empty() && s.room > 0),
     ("no orphan of any key", |s| {
         !s.schema.keys.is_empty() && s.orphans == 0 && s.room > 0
@@ -64,23 +81,40 @@ pub const SITUATIONS: &[Situation] = &[
 ];
 
 /// The names of the situations that a list shows. It was not refused by 1, 2, 3 or 10.
-pub fn of(schema: &Schema, compared: &Compared) -> Vec<&'static str> {
+pub fn of(area: &Area, compared: &Compared) -> Vec<&'static str> {
     let orphans = &compared.orphans;
     let list = match compared.code {
         0 => &orphans[..],
         _ => &[],
     };
-    let mut keys: Vec<usize> = list.iter().map(|o| o.foreign_key as usize).collect();
-    keys.dedup();
+    let halves = list.iter().filter(|orphan| is_half_filled(area, orphan));
+    let others = list.iter().filter(|orphan| !is_half_filled(area, orphan));
     let seen = Seen {
-        schema,
+        schema: area.schema,
         orphans: orphans.len(),
         room: compared.room,
         list,
-        keys,
+        keys: keys_of(list.iter()),
+        half_filled: keys_of(halves),
+        filled: keys_of(others),
     };
     let shown = SITUATIONS.iter().filter(|situation| (situation.1)(&seen));
     shown.map(|situation| situation.0).collect()
+}
+
+/// The foreign keys of orphans, each once.
+fn keys_of<'a>(orphans: impl Iterator<Item = &'a Orphan>) -> Vec<usize> {
+    let mut keys: Vec<usize> = orphans.map(|o| o.foreign_key as usize).collect();
+    keys.dedup();
+    keys
+}
+
+/// Whether the child key of an orphan has NULL in some columns.
+fn is_half_filled(area: &Area, orphan: &Orphan) -> bool {
+    let key = &area.schema.keys[orphan.foreign_key as usize];
+    let (state, _) = area.stored(key.child, orphan.row as usize);
+    let mut columns = key.child_columns.iter();
+    columns.any(|&column| state >> column & 1 == 1)
 }
 
 impl Seen<'_> {
@@ -90,6 +124,12 @@ impl Seen<'_> {
 
     fn any_key(&self, is: fn(&Key) -> bool) -> bool {
         self.keys.iter().any(|&number| is(self.key(number)))
+    }
+
+    /// Whether a row with a half-filled key of so many columns is listed.
+    fn any_half_filled(&self, columns: usize) -> bool {
+        let mut keys = self.half_filled.iter().map(|&number| self.key(number));
+        keys.any(|key| key.child_columns.len() == columns)
     }
 
     /// Whether two keys in the list, the earlier first, stand so to each other.
@@ -114,7 +154,7 @@ fn row_under_several_keys(seen: &Seen) -> bool {
     places.len() < seen.list.len()
 }
 
-/// Whether two keys differ at most in their actions and in being deferred.
+/// Whether two keys differ at most in their actions, their match and in being deferred.
 fn refer_alike(one: &Key, other: &Key) -> bool {
     (one.child, one.parent) == (other.child, other.parent)
         && one.child_columns == other.child_columns

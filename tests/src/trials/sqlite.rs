@@ -72,13 +72,14 @@ impl Alike {
         }
     }
 
-    /// One list of calls on a new database and a fresh area.
+    /// One list of calls on a new database and a fresh area. SQLite has no other match than SIMPLE.
     pub fn trial(&mut self, engine: &dyn Engine, r: &mut Random) -> Outcome {
         let ground = if r.once_in(3) {
             herds::ground(r)
         } else {
             grounds::collisions(r)
         };
+        let ground = ground.of_match_simple();
         let mut database = Database::new(&ground.schema);
         let (mut area, mut beside) = (ground.fresh(), ground.fresh());
         let mut sent = Vec::new();
