@@ -32,7 +32,8 @@ static void put_table(uint8_t *at, unsigned rows, unsigned columns)
     at[4] = 1;
 }
 
-/* Column 1 of the child table refers to column 0 of the parent table. */
+/* Column 1 of the child table refers to column 0 of the parent table. Byte 14, the match, stays 0; 1 is MATCH
+ * FULL, which asks no more of a key of one column. */
 static void put_key(uint8_t *at, unsigned child, unsigned parent)
 {
     at[0] = (uint8_t)child;

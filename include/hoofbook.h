@@ -70,7 +70,8 @@ typedef struct {
     int64_t count;
 } hoofbook_listed;
 
-/* An orphan: a row of the foreign key's child table that has no parent row. */
+/* An orphan: a row of the foreign key's child table that has no NULL in its key and no parent row. Under MATCH
+ * FULL also a row with some but not all key columns NULL, which no parent row mends. */
 typedef struct {
     uint64_t foreign_key;
     uint64_t row;

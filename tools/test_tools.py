@@ -20,6 +20,7 @@ from tooltests.checks import Checks, tool
 from tooltests.hoofask import check_build, check_hoofask
 from tooltests.inputs import damaged, whole_input
 from tooltests.many_rows import check_many_rows
+from tooltests.matches import check_matches
 from tooltests.mistakes import TABLES, all_mistakes
 from tooltests.orphans import check_orphans
 
@@ -47,8 +48,8 @@ table a rows 3
 table b rows 1024
   column x default 7
 
-key a.(y, x) -> a.(x, y) on delete set null on update set default
-key b.x -> a.y on update restrict deferred
+key a.(y, x) -> a.(x, y) match full on delete set null on update set default
+key b.x -> a.y match simple on delete no action on update restrict deferred
 journal 4096
 update a 2 y=null x=-9
 rollback to 2
@@ -59,7 +60,7 @@ EVERY_FIELD_BYTES = (
     struct.pack("<4s6H", b"FKB1", 2, 2, 16, 176, 4096, 208)
     + struct.pack("<HBB4BB7x8q", 3, 2, 1, 1, 2, 3, 0, 2, -2, 0, 0, 0, 0, 0, 0, 0)
     + struct.pack("<HBB4BB7x8q", 1024, 1, 0, 0, 0, 0, 0, 0, 7, 0, 0, 0, 0, 0, 0, 0)
-    + bytes([0, 0, 0, 2, 3, 2, 1, 0, 255, 255, 0, 1, 255, 255, 0, 0])
+    + bytes([0, 0, 0, 2, 3, 2, 1, 0, 255, 255, 0, 1, 255, 255, 1, 0])
     + bytes([1, 0, 1, 0, 1, 1, 0, 255, 255, 255, 1, 255, 255, 255, 0, 0])
     + struct.pack("<12q", 2, 0, 2, 2, -9, 0, 0, 0, 0, 0, 0, 0)
     + struct.pack("<12q", 7, 2, 0, 0, 0, 0, 0, 0, 0, 0, 0, 0)
@@ -73,7 +74,7 @@ table t0 rows 3
   unique (c0, c1)
 table t1 rows 1024
   column c0 default 7
-key t0.(c1, c0) -> t0.(c0, c1) on delete set null on update set default
+key t0.(c1, c0) -> t0.(c0, c1) match full on delete set null on update set default
 key t1.c0 -> t0.c1 on update restrict deferred
 journal 4096
 update t0 2 c0=-9 c1=null
@@ -117,7 +118,9 @@ def check_round_trips(checks):
         checks.check(f"round trip of random input {number}", text[:5] != "bytes" and returns(data))
         checks.check(f"round trip of damaged input {number}", returns(damaged(source, data)))
         texts += text
-    for start in (r"delete \S+ where ", r"update \S+ set ", "words 10 ", "words 11 "):
+    for start in (
+        r"key .* match full", r"delete \S+ where ", r"update \S+ set ", "words 10 ", "words 11 ",
+    ):
         checks.check(f"random inputs with {start}", re.search(f"^{start}", texts, re.MULTILINE))
 
 
@@ -220,8 +223,8 @@ def main():
     """Runs every check; the status is 0 only where none failed."""
     checks = Checks()
     for run in (
-        check_build, check_encoding, check_round_trips, check_mistakes, check_many_rows, check_runs,
-        check_hoofask, check_orphans, check_commands, check_command_faults, check_blocks,
+        check_build, check_encoding, check_round_trips, check_mistakes, check_many_rows, check_matches,
+        check_runs, check_hoofask, check_orphans, check_commands, check_command_faults, check_blocks,
     ):
         try:
             run(checks)

@@ -5,13 +5,14 @@ from dataclasses import dataclass, field
 
 MAGIC = bytes.fromhex("464B4231")
 ACTIONS = ("no action", "restrict", "set null", "set default", "cascade")
+MATCHES = ("simple", "full")
 MOST_COLUMNS = 8
 MOST_UNIQUE = 4
 MOST_KEY_COLUMNS = 4
 
 HEADER = struct.Struct("<4s6H")  # magic, T, F, offset of tables, offset of foreign keys, J, length
 TABLE = struct.Struct("<HBB4sB7x8q")  # R, C, NOT NULL, unique masks, default-is-NULL, defaults
-FOREIGN_KEY = struct.Struct("<6B4s4s2x")  # child, parent, deferred, actions, n, columns of both
+FOREIGN_KEY = struct.Struct("<6B4s4sBx")  # child, parent, deferred, actions, n, columns of both, match
 NO_COLUMN = 255
 
 
@@ -41,7 +42,7 @@ class Table:
 
 @dataclass
 class ForeignKey:
-    """A foreign key; tables, columns and actions are numbers."""
+    """A foreign key; tables, columns, actions and the match are numbers."""
 
     child: int
     child_columns: list
@@ -50,6 +51,7 @@ class ForeignKey:
     on_delete: int = 0
     on_update: int = 0
     deferred: bool = False
+    match: int = 0
 
 
 @dataclass
@@ -102,7 +104,7 @@ def key_bytes(key):
     rest = [NO_COLUMN] * (MOST_KEY_COLUMNS - count)
     numbers = (key.child, key.parent, key.deferred, key.on_delete, key.on_update, count)
     columns = (bytes(key.child_columns + rest), bytes(key.parent_columns + rest))
-    return FOREIGN_KEY.pack(*numbers, *columns)
+    return FOREIGN_KEY.pack(*numbers, *columns, key.match)
 
 
 def schema_bytes(schema):
@@ -128,19 +130,19 @@ def read_table(number, record):
 
 def read_key(record):
     """The foreign key that a record says."""
-    child, parent, deferred, on_delete, on_update, count, *columns = FOREIGN_KEY.unpack(record)
+    child, parent, deferred, on_delete, on_update, count, *columns, match = FOREIGN_KEY.unpack(record)
     child_columns, parent_columns = (list(part[:count]) for part in columns)
     return ForeignKey(
-        child, child_columns, parent, parent_columns, on_delete, on_update, bool(deferred)
+        child, child_columns, parent, parent_columns, on_delete, on_update, bool(deferred), match
     )
 
 
 def has_names(schema, key):
-    """Whether the key has columns, and each table, column and action that it says has a name."""
+    """Whether the key has columns, and each table, column, action and match that it says has a name."""
     tables = len(schema.tables)
     if not key.child_columns or key.child >= tables or key.parent >= tables:
         return False
-    if max(key.on_delete, key.on_update) >= len(ACTIONS):
+    if max(key.on_delete, key.on_update) >= len(ACTIONS) or key.match >= len(MATCHES):
         return False
     children = len(schema.tables[key.child].columns)
     parents = len(schema.tables[key.parent].columns)

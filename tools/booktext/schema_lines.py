@@ -1,7 +1,7 @@
 """Reads the lines of a schema: tables, columns, unique keys, foreign keys, the journal."""
 
 from .calls import LEAST_WORD, MOST_WORD
-from .schema import ACTIONS, MOST_COLUMNS, MOST_KEY_COLUMNS, MOST_UNIQUE
+from .schema import ACTIONS, MATCHES, MOST_COLUMNS, MOST_KEY_COLUMNS, MOST_UNIQUE
 from .schema import Column, ForeignKey, Table
 
 FIELD_MOST = (1 << 16) - 1  # rows and journal room are 16-bit fields
@@ -71,7 +71,7 @@ class SchemaLines:
         self.table.unique.append(columns)
 
     def read_key(self, line):
-        """key TABLE.COLUMN -> TABLE.COLUMN [on delete ACTION] [on update ACTION] [deferred]"""
+        """key TABLE.COLUMN -> TABLE.COLUMN and its clauses"""
         self.table = None
         child, child_columns = self.read_side(line)
         line.require("->")
@@ -80,13 +80,7 @@ class SchemaLines:
         if wanted != found:
             line.fail(f"expected as many parent columns as child columns, {wanted}, found {found}")
         key = ForeignKey(child, child_columns, parent, parent_columns)
-        if line.accept("on delete"):
-            key.on_delete = read_action(line)
-        if line.accept("on update"):
-            key.on_update = read_action(line)
-        key.deferred = line.accept("deferred")
-        if line.peek() is not None:
-            line.expected("'on delete', 'on update', 'deferred' in this order, each at most once")
+        read_clauses(line, key)
         self.schema.keys.append(key)
 
     def read_side(self, line):
@@ -142,12 +136,26 @@ def read_columns(line, table, most):
     return columns
 
 
-def read_action(line):
-    """The number of the action that comes next."""
-    for number, action in enumerate(ACTIONS):
-        if line.accept(action):
+def read_clauses(line, key):
+    """[match MATCH] [on delete ACTION] [on update ACTION] [deferred]"""
+    if line.accept("match"):
+        key.match = read_choice(line, MATCHES)
+    if line.accept("on delete"):
+        key.on_delete = read_choice(line, ACTIONS)
+    if line.accept("on update"):
+        key.on_update = read_choice(line, ACTIONS)
+    key.deferred = line.accept("deferred")
+    if line.peek() is not None:
+        clauses = "'match', 'on delete', 'on update', 'deferred'"
+        line.expected(f"{clauses} in this order, each at most once")
+
+
+def read_choice(line, phrases):
+    """The number of the phrase that comes next."""
+    for number, phrase in enumerate(phrases):
+        if line.accept(phrase):
             return number
-    return line.expected("one of " + ", ".join(ACTIONS))
+    return line.expected("one of " + ", ".join(phrases))
 
 
 def read_value(line):

@@ -1,7 +1,7 @@
 """Writes the text that says given bytes; tables are named t0, t1 and so on, columns c0, c1."""
 
 from .calls import CALL, call_text, value_text
-from .schema import ACTIONS, HEADER, read_schema
+from .schema import ACTIONS, HEADER, MATCHES, read_schema
 
 BYTES_ON_A_LINE = 16
 
@@ -52,6 +52,8 @@ def key_ends(schema, key):
 def key_line(schema, key):
     """The line of a foreign key."""
     line = f"key {key_ends(schema, key)}"
+    if key.match:
+        line += f" match {MATCHES[key.match]}"
     if key.on_delete:
         line += f" on delete {ACTIONS[key.on_delete]}"
     if key.on_update:

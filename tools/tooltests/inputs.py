@@ -33,7 +33,7 @@ def key_record(random, widths):
     head = [child, parent, random.randint(0, 1), random.randint(0, 4), random.randint(0, 4), count]
     for columns in (child_columns, parent_columns):
         head += columns[:count] + [255] * (4 - count)
-    return bytes(head + [0, 0])
+    return bytes(head + [random.randint(0, 1), 0])
 
 
 def schema(random):

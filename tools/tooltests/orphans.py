@@ -39,6 +39,13 @@ orphans 2
 key 0  readings.(horse, hoof) -> sensors.(horse, hoof)  readings 0
 key 0  readings.(horse, hoof) -> sensors.(horse, hoof)  readings 3
 """
+HALF_FILLED = SENSORS.replace("deferred", "match full deferred")
+HALF_FILLED_LIST = """\
+orphans 3
+key 0  readings.(horse, hoof) -> sensors.(horse, hoof)  readings 0
+key 0  readings.(horse, hoof) -> sensors.(horse, hoof)  readings 1
+key 0  readings.(horse, hoof) -> sensors.(horse, hoof)  readings 3
+"""
 ELEVEN_KEYS = (
     "table horses rows 4\n  column number unique\n  column dam\n"
     + "key horses.number -> horses.number\n" * 9
@@ -65,6 +72,7 @@ LISTS = [
     ("a refused commit", TIED + UNSORTED + "commit\n", UNSORTED_LIST),
     ("a short last call", TIED + UNSORTED + "bytes 08 00 00\n", UNSORTED_LIST),
     ("a composite key", SENSORS, SENSORS_LIST),
+    ("a half-filled key", HALF_FILLED, HALF_FILLED_LIST),
     ("key numbers of two digits", ELEVEN_KEYS, ELEVEN_KEYS_LIST),
     ("bytes alone", BYTES, BYTES_LIST),
     ("a refused 1", MALFORMED + UNSORTED, "code 1  schema malformed\n"),
