@@ -68,6 +68,10 @@ class Yard:
         """Values of the columns that are in no key."""
         return [self.random.randrange(100) for _ in range(self.spare_columns)]
 
+    def key_of(self, number):
+        """The values by which a horse is named."""
+        return self.constant + [number]
+
     def trims_of(self, number):
         """The rows of a horse's trims."""
         return [row for row, horse in self.trims.items() if horse == number]
@@ -75,7 +79,7 @@ class Yard:
     def put_horse(self, row, number):
         """Enters or renumbers a horse; its trims follow."""
         kind = UPDATE if row in self.horses else INSERT
-        self.calls.add(kind, self.HORSES, row, self.constant + [number] + self.spare())
+        self.calls.add(kind, self.HORSES, row, self.key_of(number) + self.spare())
         following = self.trims_of(self.horses.get(row)) if self.horses.get(row) != number else []
         self.trims.update(dict.fromkeys(following, number))
         self.horses[row] = number
@@ -84,7 +88,7 @@ class Yard:
     def put_trim(self, row, number):
         """Enters a trim of a horse, or moves it there."""
         kind = UPDATE if row in self.trims else INSERT
-        self.calls.add(kind, self.TRIMS, row, [row] + self.constant + [number] + self.spare())
+        self.calls.add(kind, self.TRIMS, row, [row] + self.key_of(number) + self.spare())
         self.trims[row] = number
         self.used += 1
 
@@ -136,7 +140,7 @@ class Yard:
         if not self.levels:
             self.used = 0
         if choice < 0.02 and self.horses:  # refused: the row is live
-            self.calls.add(INSERT, self.HORSES, next(iter(self.horses)), self.constant + [0] + self.spare())
+            self.calls.add(INSERT, self.HORSES, next(iter(self.horses)), self.key_of(0) + self.spare())
         elif choice < 0.35 or not self.horses:
             self.horse_statement(self.random.randrange(self.sizes[self.HORSES]))
         else:

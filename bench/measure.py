@@ -10,6 +10,7 @@ from growth import print_growth
 from inputs import Yard
 from loads import autocommit, empty_transactions, herd, pedigree, sixteen_tables, transactions
 from loads import trims_text, two_columns_text
+from pairs import Pairs, pairs_text
 from readings import NUMBER, VALUE, Kit, readings
 from ties import ties
 
@@ -35,6 +36,9 @@ def loads(count):
     yield "readings moved, transactions", readings(Kit(NUMBER, 12), Kit.transaction, count)
     yield "readings without a sensor", readings(Kit(NUMBER, 13), Kit.take_off, count)
     yield "readings without a number", readings(Kit(VALUE, 14), Kit.statement, count)
+    yield "match full, autocommit", autocommit(Pairs(pairs_text(600, 900, 64), 17), count)
+    half_filled = Pairs(pairs_text(600, 900, 200, deferred="deferred"), 18)
+    yield "match full, half-filled", transactions(half_filled, count, 40, True)
     yield "* 32 equal keys, 900 rows", autocommit(Yard(trims_text(900, 900, 64, keys=32), 7), count)
     two_columns = Yard(two_columns_text(900, 900, 150), 8, yard_column=True)
     yield "* constant first column", autocommit(two_columns, count)

@@ -95,6 +95,7 @@ static void add_column_definitions(int t) {
     }
 }
 
+// The match is left out: SQLite has no MATCH FULL, so a half-filled key is no orphan here.
 static void add_foreign_key(record key) {
     static const char *const actions[] = {"NO ACTION", "RESTRICT", "SET NULL", "SET DEFAULT", "CASCADE"};
     add(",FOREIGN KEY");
