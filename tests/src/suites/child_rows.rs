@@ -1,10 +1,10 @@
 //! The built engine against the model on changes of parent rows, with the actions that follow.
 
+use super::met::report_met;
 use crate::engine::Built;
 use crate::random::Random;
 use crate::report::Report;
 use crate::trials::child_rows::ChildRows;
-use crate::trials::origins::ORIGINS;
 use crate::trials::walk_situations::SITUATIONS;
 
 /// How many calls there are to be, how many of each code, and of each situation.
@@ -28,12 +28,7 @@ pub fn run(r: &mut Random, report: &mut Report) {
     report.test("changes of parent rows", outcome);
     let codes = trials.calls.of(CODES);
     report.counts("changes of parent rows by code", LEAST_OF_A_CODE, &codes);
-    for &(name, origin) in ORIGINS {
-        let all = SITUATIONS.into_iter().flatten();
-        let seen = all.filter(|situation| situation.1.contains(&origin));
-        let names: Vec<&str> = seen.map(|situation| situation.0).collect();
-        let met = trials.walks.met[origin as usize].of(&names);
-        let title = format!("child rows on {}", name);
-        report.counts(&title, LEAST_OF_A_SITUATION, &met);
-    }
+    let situations = SITUATIONS.into_iter().flatten();
+    let least = ("child rows", LEAST_OF_A_SITUATION);
+    report_met(report, least, situations, &trials.walks.met);
 }

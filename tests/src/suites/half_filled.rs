@@ -1,11 +1,11 @@
 //! The built engine against the model on half-filled child keys, under both matches.
 
+use super::met::report_met;
 use crate::engine::Built;
 use crate::random::Random;
 use crate::report::Report;
 use crate::trials::half_filled::HalfFilled;
 use crate::trials::half_filled_situations::SITUATIONS;
-use crate::trials::origins::ORIGINS;
 
 /// How many calls there are to be, how many of each code, and of each situation.
 const LEAST_CALLS: usize = 200_000;
@@ -29,12 +29,7 @@ pub fn run(r: &mut Random, report: &mut Report) {
     report.test("half-filled keys", outcome);
     let codes = trials.calls.of(CODES);
     report.counts("half-filled keys by code", LEAST_OF_A_CODE, &codes);
-    for &(name, origin) in ORIGINS {
-        let all = SITUATIONS.into_iter().flatten();
-        let seen = all.filter(|situation| situation.1.contains(&origin));
-        let names: Vec<&str> = seen.map(|situation| situation.0).collect();
-        let met = trials.met[origin as usize].of(&names);
-        let title = format!("half-filled keys on {}", name);
-        report.counts(&title, LEAST_OF_A_SITUATION, &met);
-    }
+    let situations = SITUATIONS.into_iter().flatten();
+    let least = ("half-filled keys", LEAST_OF_A_SITUATION);
+    report_met(report, least, situations, &trials.met);
 }

@@ -3,6 +3,7 @@
 mod child_rows;
 mod edges;
 mod half_filled;
+mod met;
 mod mistakes;
 mod operations;
 mod orphan_lists;

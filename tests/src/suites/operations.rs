@@ -1,12 +1,12 @@
 //! The built engine against the model on single operations.
 
+use super::met::report_met;
 use crate::engine::Built;
 use crate::model::search;
 use crate::random::Random;
 use crate::report::Report;
 use crate::trials::lent_list;
 use crate::trials::operations::Operations;
-use crate::trials::origins::ORIGINS;
 use crate::trials::search_situations::SITUATIONS;
 use crate::trials::searches::{self, OfKind, Searches};
 
@@ -49,15 +49,8 @@ fn report_searches(report: &mut Report, searches: &Searches) {
     for (kind, of_kind) in (10..).zip(&searches.of_kind) {
         report_kind(report, kind, of_kind);
     }
-    for &(name, origin) in ORIGINS {
-        let seen = SITUATIONS
-            .iter()
-            .filter(|situation| situation.1.contains(&origin));
-        let names: Vec<&str> = seen.map(|situation| situation.0).collect();
-        let met = searches.met[origin as usize].of(&names);
-        let title = format!("kinds 10 and 11 on {}", name);
-        report.counts(&title, LEAST_OF_A_SITUATION, &met);
-    }
+    let least = ("kinds 10 and 11", LEAST_OF_A_SITUATION);
+    report_met(report, least, SITUATIONS.iter(), &searches.met);
 }
 
 fn report_kind(report: &mut Report, kind: i64, of_kind: &OfKind) {
