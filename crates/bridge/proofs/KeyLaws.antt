@@ -130,7 +130,7 @@ module _ (x x′ : Row) (same : (i : ℕ) → getD x i 𝟘 ≡ getD x′ i 𝟘
   module _ (k : ForeignKey) where
     due-same : due k x ≡ due k x′
     unfolding due
-    due-same = or-same (full-same (k .childColumns)) (half-due-same (k .match) (k .childColumns))
+    due-same = ap (λ (b : Bool). not (k .broken) && b) (or-same (full-same (k .childColumns)) (half-due-same (k .match) (k .childColumns)))
 
     serves-same : (p : Row) → serves k x p ≡ serves k x′ p
     unfolding serves mapsTo

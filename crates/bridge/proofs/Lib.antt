@@ -1,5 +1,6 @@
 pub mod Tests
 pub mod CountLaws
+pub mod LoopLaws
 pub mod Shapes
 pub mod Books
 pub mod Counts
@@ -19,5 +20,6 @@ pub mod HoldLaws
 pub mod SoundLaws
 pub mod KeyLaws
 pub mod NullKeys
+pub mod BrokenKeys
 pub mod ValueLaws
 pub mod Zeros

@@ -57,21 +57,27 @@ module _ (x : Row) where
 pub vacant-orphan : (k : ForeignKey) (ps : List Row) (x : Row) → live x ≡ false → orphan k ps x ≡ false
 unfolding orphan due fullKey
 vacant-orphan k ps x h =
-    ap (λ b. ((b && sameKey (k .childColumns) (k .childColumns) x x) || halfDue (k .match) (k .childColumns) x) && not (any (serves k x) ps)) h
+    ap (λ b. (not (k .broken) && ((b && sameKey (k .childColumns) (k .childColumns) x x) || halfDue (k .match) (k .childColumns) x)) && not (any (serves k x) ps)) h
     ∙ by (halfDue (k .match) (k .childColumns) x) (half-due-live x (k .match) (k .childColumns))
   where
-    by : (d : Bool) → (d ≡ true → live x ≡ true) → d && not (any (serves k x) ps) ≡ false
+    by : (d : Bool) → (d ≡ true → live x ≡ true) → (not (k .broken) && d) && not (any (serves k x) ps) ≡ false
     by true e = absurd (false≢true (sym h ∙ e refl))
-    by false e = refl
+    by false e = ap (λ b. b && not (any (serves k x) ps)) (and-none (not (k .broken)))
 
--- ---- a child row x of a foreign key, its columns as many on both sides
+-- ---- a child row x of a foreign key that is not broken
+module _ (k : ForeignKey) (whole : k .broken ≡ false) (x : Row) where
+  pub whole-due : due k x ≡ fullKey (k .childColumns) x || halfDue (k .match) (k .childColumns) x
+  unfolding due
+  whole-due = ap (λ b. not b && (fullKey (k .childColumns) x || halfDue (k .match) (k .childColumns) x)) whole
+
+-- ---- its columns as many on both sides
 module _ (k : ForeignKey) (same-count : length (k .childColumns) ≡ length (k .parentColumns)) (x : Row) where
   -- a row that maps to another needs a parent exactly if it is live
-  pub mapped-due : (p : Row) → mapsTo k x p ≡ true → due k x ≡ live x
-  unfolding due fullKey mapsTo
-  mapped-due p h =
+  pub mapped-due : k .broken ≡ false → (p : Row) → mapsTo k x p ≡ true → due k x ≡ live x
+  unfolding fullKey mapsTo
+  mapped-due whole p h =
       let full : sameKey (k .childColumns) (k .childColumns) x x ≡ true = full-left x p (k .childColumns) (k .parentColumns) same-count h in
-      ap (λ b. (live x && b) || halfDue (k .match) (k .childColumns) x) full ∙ by (live x) (halfDue (k .match) (k .childColumns) x) (half-due-live x (k .match) (k .childColumns))
+      whole-due k whole x ∙ ap (λ b. (live x && b) || halfDue (k .match) (k .childColumns) x) full ∙ by (live x) (halfDue (k .match) (k .childColumns) x) (half-due-live x (k .match) (k .childColumns))
     where
       by : (l d : Bool) → (d ≡ true → l ≡ true) → (l && true) || d ≡ l
       by true d e = refl
@@ -88,10 +94,11 @@ module _ (k : ForeignKey) (same-count : length (k .childColumns) ≡ length (k .
       by false e = and-none (live p)
 
   -- so one that needs a parent with NULL in its key is an orphan, whatever the parent rows
-  pub half-orphan : (ps : List Row) → fullKey (k .childColumns) x ≡ false → orphan k ps x ≡ halfDue (k .match) (k .childColumns) x
-  unfolding orphan due
-  half-orphan ps h =
-      ap (λ b. (b || halfDue (k .match) (k .childColumns) x) && not (any (serves k x) ps)) h
+  pub half-orphan : k .broken ≡ false → (ps : List Row) → fullKey (k .childColumns) x ≡ false → orphan k ps x ≡ halfDue (k .match) (k .childColumns) x
+  unfolding orphan
+  half-orphan whole ps h =
+      ap (λ b. b && not (any (serves k x) ps)) (whole-due k whole x)
+      ∙ ap (λ b. (b || halfDue (k .match) (k .childColumns) x) && not (any (serves k x) ps)) h
       ∙ by (halfDue (k .match) (k .childColumns) x) (half-due-key x (k .match) (k .childColumns))
     where
       by : (d : Bool) → (d ≡ true → halfKey (k .childColumns) x ≡ true) → d && not (any (serves k x) ps) ≡ d

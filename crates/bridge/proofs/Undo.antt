@@ -1,7 +1,7 @@
 -- What a row change writes to the journal undoes it.
 -- Assumes nothing.
 use mathlib.Core.Path.{_≡_, refl, sym, _∙_, ap}
-use mathlib.Core.Bool.{Bool, true, false, _&&_, false≢true}
+use mathlib.Core.Bool.{Bool, true, false, _&&_, _||_, false≢true}
 use mathlib.Core.List.{List, [], _∷_, _++_, append-assoc}
 use Prim.Native.Nat.{ℕ, zero, suc, _-_, _<_}
 use native.Mathlib.Omega.{arith}
@@ -22,7 +22,7 @@ use Rattle.rules.specs.declared.Verdict.the-variants.{Pass, Fail}
 use Rattle.rules.specs.Rows.{Row, Tables, rowAt, image, putRow, overwrite}
 use Rattle.rules.specs.State.{placed}
 use Rattle.rules.specs.declared.Refusal.{Refusal}
-use Rattle.rules.specs.declared.Refusal.the-variants.{JournalFull, TooDeep, NotNull, NotUnique, Restricted}
+use Rattle.rules.specs.declared.Refusal.the-variants.{JournalFull, TooDeep, BrokenKey, NotNull, NotUnique, Restricted}
 use Rattle.schema.proofs.SchemaLaws.{Valid}
 use Rattle.schema.specs.Ranges.{all}
 use Rattle.schema.specs.Records.{tableOf, ForeignKey, Schema}
@@ -112,9 +112,9 @@ one-write {s} v t r vs w sh e h =
       widths-are = widths-put (w .tabs) t r (overwrite (rowAt t r (w .tabs)) vs) (length-overwrite (rowAt t r (w .tabs)) vs);
     }
 
--- 14 to 18: a row change is refused by no other
+-- 14 to 18 and 23: a row change is refused by no other
 unfoldable pub ofChange : Refusal → Bool
-ofChange c = leb 14 (number c) && leb (number c) 18
+ofChange c = leb 14 (number c) && (leb (number c) 18 || leb 23 (number c))
 
 -- accepted or refused, what was written is undone by its records
 pub data Fine (s : Schema) (w : Work) : Result → Type 0 where
@@ -158,7 +158,10 @@ admits-code : (s : Schema) (t r : ℕ) (new : Row) (w : Work) (c : Refusal) → 
 unfolding admits ofChange number
 admits-code s t r new w c e =
     failing-code _ JournalFull c _ refl
-    (λ d f. failing-code _ NotNull d _ refl (λ d f. failing-code _ NotUnique d _ refl (λ d f. absurd (false≢true (ap failed f))) f) f)
+    (λ d f. failing-code _ BrokenKey d _ refl
+    (λ d f. failing-code _ NotNull d _ refl
+    (λ d f. failing-code _ NotUnique d _ refl
+    (λ d f. absurd (false≢true (ap failed f))) f) f) f)
     e
 
 -- a change that is admitted has a spare record

@@ -9,7 +9,7 @@ use lib.Dec.{eqb→eq}
 use lib.IntN.{ℤ}
 use lib.ListN.{length, length-append}
 use Rattle.schema.specs.declared.SchemaAnswer.{SchemaAnswer}
-use Rattle.schema.specs.declared.SchemaAnswer.the-variants.{Accepted, Malformed, Unmatched}
+use Rattle.schema.specs.declared.SchemaAnswer.the-variants.{Accepted, Malformed}
 use Rattle.schema.specs.Records.{Schema}
 use Rattle.schema.specs.Sizes.{areaSize}
 use Rattle.schema.specs.Fields.{schemaOf}
@@ -124,4 +124,3 @@ changed-few bs c ws = by (checkSchema bs) refl
     by : (a : SchemaAnswer) → checkSchema bs ≡ a → Few 4096 (underSchema a (areaStep (schemaOf bs) c) ws)
     by Accepted e = omega (arith, few-area (valid bs (accepted-formed bs e)) c ws, room-few bs e)
     by Malformed e = omega arith
-    by Unmatched e = omega arith

@@ -8,5 +8,7 @@ pub mod Undone
 pub mod NoneFound
 pub mod Changed
 pub mod Demand3
+pub mod UsedKeys
+pub mod Broken
 pub mod Reached
 pub mod AllOrphans

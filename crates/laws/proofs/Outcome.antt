@@ -1,7 +1,7 @@
 -- What a call can come to.
 -- Assumes nothing.
 use mathlib.Core.Path.{_≡_, refl, sym, _∙_, ap}
-use mathlib.Core.Bool.{Bool, true, false, _&&_, true≢false}
+use mathlib.Core.Bool.{Bool, true, false, _&&_, _||_, true≢false, false≢true}
 use mathlib.Core.List.{List, [], _∷_}
 use Prim.Native.Nat.{ℕ, suc, _-_, _≤_, _<_}
 use mathlib.Core.Logic.{_≢_}
@@ -60,13 +60,13 @@ unfolding place
 ends-release a e x k h =
     λ i. record { line = joined x (k .line); pile = drop-of-length-le (k .pile) {i = suc (length (k .pile)) - a} (omega arith) i }
 
--- a row change is refused by 14 to 18
+-- a row change is refused by 14 to 18 and 23
 change-regular : (r : Refusal) → ofChange r ≡ true → regular r ≡ true
 unfolding ofChange regular
 change-regular r h =
-    let low : 14 ≤ number r = leb-true 14 (number r) (and-left (leb 14 (number r)) (leb (number r) 18) h) in
-    let high : number r ≤ 18 = leb-true (number r) 18 (and-right (leb 14 (number r)) (leb (number r) 18) h) in
-    rw (ne-eqb (number r) 10 (λ e. omega (arith, low)), ne-eqb (number r) 19 (λ e. omega (arith, high)))
+    let low : 14 ≤ number r = leb-true 14 (number r) (and-left (leb 14 (number r)) (leb (number r) 18 || leb 23 (number r)) h) in
+    let high : leb (number r) 18 || leb 23 (number r) ≡ true = and-right (leb 14 (number r)) (leb (number r) 18 || leb 23 (number r)) h in
+    rw (ne-eqb (number r) 10 (λ e. omega (arith, low)), ne-eqb (number r) 19 (λ e. false≢true (rw e at high)))
 
 module _ {s : Schema} {b : Book} (v : Valid s) (g : Good s b) where
   of-check : {c : Call} (t : Bool) (r : Refusal) (k : Book → Turn) → regular r ≡ true → (t ≡ true → Outcome s b c (k b)) → Outcome s b c (check t r k b)

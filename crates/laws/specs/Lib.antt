@@ -1,2 +1,3 @@
 pub mod Regular
 pub mod Reached
+pub mod UsedKeys

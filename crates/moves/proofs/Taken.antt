@@ -14,6 +14,7 @@ use Rattle.bridge.proofs.CountLaws.{count-none}
 use Rattle.bridge.proofs.Tests.{and-none}
 use Rattle.bridge.proofs.KeyLaws.{key-sym, key-trans, full-right}
 use Rattle.bridge.proofs.NullKeys.{mapped-due, half-unserved}
+use Rattle.bridge.proofs.BrokenKeys.{broken-due, broken-still}
 use Rattle.moves.specs.Movement.{pick, except, exceptIf, stranded, strandedRows}
 
 -- ---- tests in another order
@@ -40,13 +41,13 @@ unfolding pick
 count-given true p xs = refl
 count-given false p xs = count-none (λ c. false) (λ c. refl) xs
 
-pick-and : (a b : Bool) (n : ℕ) → pick a (pick b n) ≡ pick (a && b) n
-unfolding pick
-pick-and true b n = refl
-pick-and false b n = refl
+-- a half-filled child row is not stranded where x becomes y; nor is it mended, for what that mends is what y, becoming x, strands
+pub half-stays : (k : ForeignKey) → length (k .childColumns) ≡ length (k .parentColumns) → (x y : Row) (others : List Row) (c : Row) → halfKey (k .childColumns) c ≡ true → stranded k x y others c ≡ false
+unfolding stranded
+half-stays k e x y others c h = ap (λ b. due k c && (b && (not (serves k c y) && not (any (serves k c) others)))) (half-unserved k e c h x) ∙ and-none (due k c)
 
--- ---- one foreign key, its columns as many on both sides
-module _ (k : ForeignKey) (same-count : length (k .childColumns) ≡ length (k .parentColumns)) (x : Row) where
+-- ---- one foreign key that is not broken, its columns as many on both sides
+module _ (k : ForeignKey) (whole : k .broken ≡ false) (same-count : length (k .childColumns) ≡ length (k .parentColumns)) (x : Row) where
   -- a row that x serves is served by those that have x's key
   served-twin : (c p : Row) → mapsTo k c x ≡ true → serves k c p ≡ sameParentKey k x p
   unfolding serves mapsTo sameParentKey
@@ -58,7 +59,7 @@ module _ (k : ForeignKey) (same-count : length (k .childColumns) ≡ length (k .
   -- a row that needs a parent and that x serves is one that x's actions take
   due-served : (c : Row) → due k c && serves k c x ≡ live x && takes k x c
   unfolding serves takes
-  due-served c = swap (due k c) (live c) (live x) (mapsTo k c x) (mapped-due k same-count c x)
+  due-served c = swap (due k c) (live c) (live x) (mapsTo k c x) (mapped-due k same-count c whole x)
 
   untaken : (c : Row) → mapsTo k c x ≡ false → live x && takes k x c ≡ false
   unfolding takes
@@ -74,11 +75,6 @@ module _ (k : ForeignKey) (same-count : length (k .childColumns) ≡ length (k .
       by c false e = and-none (live c)
 
   module _ (y : Row) (others : List Row) where
-    -- a half-filled child row is not stranded where x becomes y; nor is it mended, for what that mends is what y, becoming x, strands
-    pub half-stays : (c : Row) → halfKey (k .childColumns) c ≡ true → stranded k x y others c ≡ false
-    unfolding stranded
-    half-stays c h = ap (λ b. due k c && (b && (not (serves k c y) && not (any (serves k c) others)))) (half-unserved k same-count c h x) ∙ and-none (due k c)
-
     -- no row but x has x's key when x has become y
     abbrev gone : Bool
     gone = not (sameParentKey k x y) && not (any (sameParentKey k x) others)
@@ -102,7 +98,7 @@ module _ (k : ForeignKey) (same-count : length (k .childColumns) ≡ length (k .
         ∙ count-given gone (λ c. live x && takes k x c) cs
         ∙ ap (pick gone) (count-given (live x) (takes k x) cs)
 
-pick-zero : (b : Bool) → pick b 0 ≡ 0
+pub pick-zero : (b : Bool) → pick b 0 ≡ 0
 unfolding pick
 pick-zero true = refl
 pick-zero false = refl
@@ -116,13 +112,37 @@ picks true false o true true n h = refl
 picks true s o true false n h = rw (h refl) (pick-zero (s && o))
 
 -- ---- in tables
-pub stranded-rows : (k : ForeignKey) → length (k .childColumns) ≡ length (k .parentColumns) → (t r : ℕ) (x y : Row) (tabs : Tables)
-    → strandedRows k t r x y tabs
-    ≡ pick (fires y t x k && not (any (sameParentKey k x) (except r (getD tabs (k .parent) [])))) (count (takes k x) (exceptIf (eqb (k .child) t) r (getD tabs (k .child) [])))
-unfolding strandedRows fires fullKey
-stranded-rows k e t r x y tabs =
-    let others : List Row = except r (getD tabs (k .parent) []) in
-    let cs : List Row = exceptIf (eqb (k .child) t) r (getD tabs (k .child) []) in
-    ap (pick (eqb (k .parent) t)) (count-stranded k e x y others cs)
-    ∙ picks (eqb (k .parent) t) (not (sameParentKey k x y)) (not (any (sameParentKey k x) others)) (live x) (sameKey (k .parentColumns) (k .parentColumns) x x) (count (takes k x) cs)
-    (λ h. none-taken k e x h cs)
+module _ (k : ForeignKey) (t r : ℕ) (x y : Row) (tabs : Tables) where
+  abbrev others-of : List Row
+  others-of = except r (getD tabs (k .parent) [])
+
+  abbrev children-of : List Row
+  children-of = exceptIf (eqb (k .child) t) r (getD tabs (k .child) [])
+
+  -- a broken key's child rows need no parent
+  pub stranded-broken : k .broken ≡ true → strandedRows k t r x y tabs ≡ 0
+  unfolding strandedRows stranded
+  stranded-broken u =
+      ap (pick (eqb (k .parent) t))
+      (count-none (stranded k x y others-of) (λ c. ap (λ b. b && (serves k c x && (not (serves k c y) && not (any (serves k c) others-of)))) (broken-due k u c)) children-of)
+      ∙ pick-zero (eqb (k .parent) t)
+
+  module _ (same-count : length (k .childColumns) ≡ length (k .parentColumns)) where
+    abbrev taken-rows : ℕ
+    taken-rows = pick (fires y t x k && not (any (sameParentKey k x) others-of)) (count (takes k x) children-of)
+
+    stranded-whole : k .broken ≡ false → strandedRows k t r x y tabs ≡ taken-rows
+    unfolding strandedRows fires fullKey
+    stranded-whole u =
+        ap (pick (eqb (k .parent) t)) (count-stranded k u same-count x y others-of children-of)
+        ∙ picks (eqb (k .parent) t) (not (sameParentKey k x y)) (not (any (sameParentKey k x) others-of)) (live x) (sameKey (k .parentColumns) (k .parentColumns) x x) (count (takes k x) children-of)
+        (λ h. none-taken k u same-count x h children-of)
+        ∙ ap (λ b. pick ((eqb (k .parent) t && (not b && ((live x && sameKey (k .parentColumns) (k .parentColumns) x x) && not (sameParentKey k x y)))) && not (any (sameParentKey k x) others-of)) (count (takes k x) children-of)) (sym u)
+
+    pub stranded-rows : strandedRows k t r x y tabs ≡ pick (fires y t x k && not (any (sameParentKey k x) (except r (getD tabs (k .parent) [])))) (count (takes k x) (exceptIf (eqb (k .child) t) r (getD tabs (k .child) [])))
+    unfolding pick
+    stranded-rows = go (k .broken) refl
+      where
+        go : (b : Bool) → k .broken ≡ b → strandedRows k t r x y tabs ≡ taken-rows
+        go false u = stranded-whole u
+        go true u = stranded-broken u ∙ sym (ap (λ b. pick (b && not (any (sameParentKey k x) others-of)) (count (takes k x) children-of)) (broken-still k u y t x))

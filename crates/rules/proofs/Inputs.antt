@@ -73,6 +73,16 @@ unfoldable pub eitherMatch : List ℕ
 unfolding schemaBytes tableBytes pairBytes
 eitherMatch = schemaBytes 2 2 8 (tableBytes 2 2 0 3 ++ tableBytes 4 2 0 0 ++ pairBytes 1 0 0 ++ pairBytes 1 0 1)
 
+-- horses, trims that follow their horse by one action, and readings of trims. No unique key is drawn on trims, so the second key is broken; both are deferred
+unfoldable pub halfDrawn : ℕ → ℕ → List ℕ
+unfolding schemaBytes tableBytes keyBytes
+halfDrawn action room = schemaBytes 3 2 room (tableBytes 2 1 1 1 ++ tableBytes 2 2 1 0 ++ tableBytes 2 1 1 0 ++ keyBytes 1 1 0 0 1 action action ++ keyBytes 2 0 1 0 1 4 4)
+
+-- three tables of one unique column: one for a column 255 of a table 200, one for its own column 1
+unfoldable pub notDrawn : List ℕ
+unfolding schemaBytes tableBytes keyBytes
+notDrawn = schemaBytes 3 2 8 (tableBytes 2 1 1 1 ++ tableBytes 2 1 1 1 ++ tableBytes 2 1 1 1 ++ keyBytes 1 0 200 255 0 4 4 ++ keyBytes 2 0 2 1 0 4 4)
+
 -- ---- calls, as twelve words
 
 unfoldable call : ℕ → ℕ → ℕ → ℕ → List ℤ → List ℤ

@@ -6,3 +6,4 @@ pub mod Examples
 pub mod ManyRows
 pub mod OldKey
 pub mod MatchFull
+pub mod BrokenKeys

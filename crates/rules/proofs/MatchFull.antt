@@ -30,7 +30,7 @@ mended = (0, 1, negsuc 0)
 
 -- a foreign key of two columns for two, of a match
 abbrev pair : Match → ForeignKey
-pair m = record { child = 1; parent = 0; deferred = false; onDelete = Cascade; onUpdate = Cascade; childColumns = 0 ∷ 1 ∷ []; parentColumns = 0 ∷ 1 ∷ []; match = m }
+pair m = record { child = 1; parent = 0; deferred = false; onDelete = Cascade; onUpdate = Cascade; childColumns = 0 ∷ 1 ∷ []; parentColumns = 0 ∷ 1 ∷ []; match = m; broken = false }
 
 abbrev full : Row
 full = pos 256 ∷ pos 7 ∷ pos 8 ∷ []

@@ -11,13 +11,13 @@ use Rattle.schema.specs.declared.Action.{Action}
 use Rattle.schema.specs.declared.Action.the-variants.{NoAction, Restrict, SetNull, SetDefault, Cascade}
 use Rattle.schema.specs.Records.{Table, ForeignKey, Schema, tableOf}
 use Rattle.rules.specs.declared.Refusal.{Refusal}
-use Rattle.rules.specs.declared.Refusal.the-variants.{TooDeep, JournalFull, NotNull, NotUnique, Restricted}
+use Rattle.rules.specs.declared.Refusal.the-variants.{TooDeep, JournalFull, BrokenKey, NotNull, NotUnique, Restricted}
 use Rattle.rules.specs.Lists.{𝟘, any, upFrom}
 use Rattle.rules.specs.Refusals.{failing}
 use Rattle.rules.specs.declared.Verdict.{Verdict}
 use Rattle.rules.specs.declared.Verdict.the-variants.{Pass, Fail}
 use Rattle.rules.specs.Rows.{Row, rowAt, image, deletedImage, live, nullAt, valueAt, maskOf, normal}
-use Rattle.rules.specs.Keys.{sameKey, fullKey, maskColumns, takes, fires}
+use Rattle.rules.specs.Keys.{sameKey, fullKey, maskColumns, takes, fires, usesBroken}
 use Rattle.rules.specs.Book.{Work, write}
 
 -- a statement goes on, or is refused; with what it has written so far
@@ -57,12 +57,13 @@ twice cs r new i (x ∷ xs) = elim (not (eqb i r) && (live x && sameKey cs cs x 
 unfoldable pub uniqueBroken : Table → ℕ → Row → List Row → Bool
 uniqueBroken t r new rows = any (λ m. not (eqb m 0) && (fullKey (maskColumns m) new && twice (maskColumns m) r new 0 rows)) (t .uniques)
 
--- 15, 16, 17, in this order; "a deletion passes both" 16 and 17
+-- 15, 23, 16, 17, in this order: 23 "comes between 15 and 16"; "a deletion passes both" 16 and 17
 unfoldable pub admits : Schema → ℕ → ℕ → Row → Work → Verdict
 admits s t r new w =
     failing (eqb (length (w .spare)) 0) JournalFull
+    (failing (any (usesBroken new t (rowAt t r (w .tabs))) (s .keys)) BrokenKey
     (failing (live new && notNullBroken (tableOf s t) new) NotNull
-    (failing (live new && uniqueBroken (tableOf s t) r new (getD (w .tabs) t [])) NotUnique Pass))
+    (failing (live new && uniqueBroken (tableOf s t) r new (getD (w .tabs) t [])) NotUnique Pass)))
 
 unfoldable pub admitted : Verdict → (Work → Result) → Work → Result
 admitted Pass k w = k w

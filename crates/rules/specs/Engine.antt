@@ -6,23 +6,22 @@ use lib.Dec.{eqb}
 use lib.IntN.{ℤ}
 use lib.ListN.{length}
 use Rattle.schema.specs.declared.SchemaAnswer.{SchemaAnswer}
-use Rattle.schema.specs.declared.SchemaAnswer.the-variants.{Accepted, Malformed, Unmatched}
+use Rattle.schema.specs.declared.SchemaAnswer.the-variants.{Accepted, Malformed}
 use Rattle.schema.specs.Fields.{schemaOf}
 use Rattle.schema.specs.Check.{checkSchema}
 use Rattle.schema.specs.Sizes.{areaSize}
-use Rattle.rules.specs.declared.Refusal.the-variants.{SchemaMalformed, SchemaUnmatched, WrongLength}
+use Rattle.rules.specs.declared.Refusal.the-variants.{SchemaMalformed, WrongLength}
 use Rattle.rules.specs.declared.Answer.the-variants.{Done, Refused}
 use Rattle.rules.specs.Lists.{𝟘}
 use Rattle.rules.specs.Step.{Logged, runAll}
 use Rattle.rules.specs.Area.{AreaTurn, ensure, areaStep, freshWords}
 
--- refusals 1 and 2 come before all others
+-- refusal 1 comes before all others
 unfoldable pub underSchema : SchemaAnswer → (List ℤ → AreaTurn) → List ℤ → AreaTurn
 underSchema Accepted k ws = k ws
 underSchema Malformed k ws = (Refused SchemaMalformed, ws)
-underSchema Unmatched k ws = (Refused SchemaUnmatched, ws)
 
--- make fresh: "refused only by 1, 2 and 3"
+-- make fresh: "refused only by 1 .. and 3"; "refusal 2 is given no more"
 unfoldable pub makeFresh : List ℕ → List ℤ → AreaTurn
 makeFresh bs = underSchema (checkSchema bs) (λ ws. ensure (eqb (length ws) (areaSize (schemaOf bs))) WrongLength (λ ws. (Done 0 𝟘, freshWords (schemaOf bs))) ws)
 

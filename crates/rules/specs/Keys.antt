@@ -50,9 +50,9 @@ unfoldable pub halfDue : Match → List ℕ → Row → Bool
 halfDue Simple cs child = false
 halfDue Full cs child = halfKey cs child
 
--- the child row needs a parent: "a live child row with no NULL in its child key", or one half filled under MATCH FULL
+-- the child row needs a parent: "a live child row with no NULL in its child key", or one half filled under MATCH FULL. "A broken key has no orphans."
 unfoldable pub due : ForeignKey → Row → Bool
-due k child = fullKey (k .childColumns) child || halfDue (k .match) (k .childColumns) child
+due k child = not (k .broken) && (fullKey (k .childColumns) child || halfDue (k .match) (k .childColumns) child)
 
 -- a "live parent row with the equal key"
 unfoldable pub serves : ForeignKey → Row → Row → Bool
@@ -78,6 +78,17 @@ takes k old row = live row && mapsTo k row old
 unfoldable pub sameParentKey : ForeignKey → Row → Row → Bool
 sameParentKey k y x = live x && sameKey (k .parentColumns) (k .parentColumns) x y
 
--- "Actions follow a delete, or an update whose new parent key is not the old one, if the old key has no NULL."
+-- "Actions follow a delete, or an update whose new parent key is not the old one, if the old key has no NULL." Of a broken key none follow: 23 comes first
 unfoldable pub fires : Row → ℕ → Row → ForeignKey → Bool
-fires new t old k = eqb (k .parent) t && (fullKey (k .parentColumns) old && not (sameParentKey k old new))
+fires new t old k = eqb (k .parent) t && (not (k .broken) && (fullKey (k .parentColumns) old && not (sameParentKey k old new)))
+
+-- ---- broken keys
+
+-- "A row change uses it when it inserts or updates a row of its child table, or updates or deletes a row of its parent table where that exists."
+-- A row inserted or updated lives after the change; one updated or deleted lived before it
+unfoldable pub uses : Bool → ℕ → Bool → ForeignKey → Bool
+uses lives t lived k = (eqb (k .child) t && lives) || (eqb (k .parent) t && lived)
+
+-- "23 when a row change .. uses a broken key"
+unfoldable pub usesBroken : Row → ℕ → Row → ForeignKey → Bool
+usesBroken new t old k = k .broken && uses (live new) t (live old) k

@@ -7,13 +7,13 @@ use lib.Dec.{ltb, eqb}
 use lib.IntN.{ℤ, pos}
 use lib.ListN.{length, getD, drop}
 use Rattle.schema.specs.declared.SchemaAnswer.{SchemaAnswer}
-use Rattle.schema.specs.declared.SchemaAnswer.the-variants.{Accepted, Malformed, Unmatched}
+use Rattle.schema.specs.declared.SchemaAnswer.the-variants.{Accepted, Malformed}
 use Rattle.schema.specs.Ranges.{all}
 use Rattle.schema.specs.Records.{ForeignKey, Schema, keyOf}
 use Rattle.schema.specs.Fields.{schemaOf}
 use Rattle.schema.specs.Check.{checkSchema}
 use Rattle.schema.specs.Sizes.{areaSize}
-use Rattle.rules.specs.declared.Refusal.the-variants.{SchemaMalformed, SchemaUnmatched, WrongLength, Damaged, ListTooShort}
+use Rattle.rules.specs.declared.Refusal.the-variants.{SchemaMalformed, WrongLength, Damaged, ListTooShort}
 use Rattle.rules.specs.declared.Orphan.{Orphan}
 use Rattle.rules.specs.declared.Listed.{Listed}
 use Rattle.rules.specs.Lists.{𝟘}
@@ -49,13 +49,12 @@ unfoldable pub orphanTotal : List ForeignKey → Tables → ℕ
 orphanTotal [] tabs = 0
 orphanTotal (k ∷ ks) tabs = orphans tabs k + orphanTotal ks tabs
 
--- refusals 1 and 2 come before the other checks
+-- refusal 1 comes before the other checks
 unfoldable pub schemaVerdict : SchemaAnswer → Verdict → Verdict
 schemaVerdict Accepted v = v
 schemaVerdict Malformed v = Fail SchemaMalformed
-schemaVerdict Unmatched v = Fail SchemaUnmatched
 
--- "Checks: 1, 2, 3, 10, 22."
+-- "Checks: 1, .. 3, 10, 22.": 2 is given no more
 unfoldable pub listVerdict : List ℕ → List ℤ → ℕ → Verdict
 listVerdict bs ws room =
     let s : Schema = schemaOf bs in

@@ -5,7 +5,7 @@ use Prim.Native.Nat.{ℕ}
 use lib.IntN.{ℤ}
 use Rattle.rules.specs.Lists.{𝟘}
 use Rattle.rules.specs.declared.Refusal.{Refusal}
-use Rattle.rules.specs.declared.Refusal.the-variants.{SchemaMalformed, SchemaUnmatched, WrongLength, BadCall, Damaged, RowState, LevelState, LevelsFull, TooDeep, JournalFull, NotNull, NotUnique, Restricted, KeptOutOfRange, OrphansLeft, CommitWithOrphans, ListTooShort}
+use Rattle.rules.specs.declared.Refusal.the-variants.{SchemaMalformed, WrongLength, BadCall, Damaged, RowState, LevelState, LevelsFull, TooDeep, JournalFull, NotNull, NotUnique, Restricted, KeptOutOfRange, OrphansLeft, CommitWithOrphans, ListTooShort, BrokenKey}
 use Rattle.rules.specs.declared.Verdict.{Verdict}
 use Rattle.rules.specs.declared.Verdict.the-variants.{Fail}
 use Rattle.rules.specs.declared.Answer.{Answer}
@@ -14,7 +14,6 @@ use Rattle.rules.specs.declared.Answer.the-variants.{Done, Refused}
 -- the paper's number of a refusal
 unfoldable pub number : Refusal → ℕ
 number SchemaMalformed = 1
-number SchemaUnmatched = 2
 number WrongLength = 3
 number BadCall = 4
 number Damaged = 10
@@ -30,6 +29,7 @@ number KeptOutOfRange = 19
 number OrphansLeft = 20
 number CommitWithOrphans = 21
 number ListTooShort = 22
+number BrokenKey = 23
 
 -- code, rows changed, net. "Refused: code, 0, 0."
 unfoldable pub shown : Answer → ℕ × ℕ × ℤ

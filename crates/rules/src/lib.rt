@@ -4,8 +4,6 @@
 pub enum Refusal {
     // 1: schema bytes break a rule.
     SchemaMalformed,
-    // 2: a parent table or column is missing, or there is no matching unique key.
-    SchemaUnmatched,
     // 3: wrong area length.
     WrongLength,
     // 4: not twelve words, or a word out of its range.
@@ -36,6 +34,8 @@ pub enum Refusal {
     CommitWithOrphans,
     // 22: orphan list too short.
     ListTooShort,
+    // 23: a row change uses a broken key.
+    BrokenKey,
 }
 
 // Whether checks pass, or which one refuses.

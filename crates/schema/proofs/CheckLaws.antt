@@ -2,11 +2,11 @@
 use mathlib.Core.Path.{_≡_, sym}
 use mathlib.Core.Bool.{Bool, true, false, _&&_}
 use mathlib.Core.List.{List}
-use Prim.Native.Nat.{ℕ, _+_, _<_, _≤_}
-use borrow.Author.Tests.{le-leb, lt-leb, lt-ltb, le-ltb}
+use Prim.Native.Nat.{ℕ, _<_, _≤_}
+use borrow.Author.Tests.{le-leb, lt-leb, le-ltb}
 use lib.ListN.{length}
-use Rattle.schema.specs.declared.SchemaAnswer.the-variants.{Accepted, Malformed, Unmatched}
-use Rattle.schema.specs.Ranges.{allFrom, anyFrom}
+use Rattle.schema.specs.declared.SchemaAnswer.the-variants.{Accepted, Malformed}
+use Rattle.schema.specs.Ranges.{allFrom}
 use Rattle.schema.specs.Fields
 use Rattle.schema.specs.Check
 
@@ -39,13 +39,9 @@ module _ (bs : List ℕ) where
   unfolding Check.keyRules
   key-rest k e = rw e
 
-  pub parent-no : (k : ℕ) → Fields.tableCount bs ≤ Fields.parentOf bs k → false ≡ Check.parentRules bs k
-  unfolding Check.parentRules
+  pub parent-no : (k : ℕ) → Fields.tableCount bs ≤ Fields.parentOf bs k → false ≡ Fields.hasParentKey bs k
+  unfolding Fields.hasParentKey
   parent-no k h = rw (le-ltb (Fields.parentOf bs k) (Fields.tableCount bs) h)
-
-  pub parent-rest : (k : ℕ) → Fields.parentOf bs k < Fields.tableCount bs → Check.parentRules bs k ≡ (allFrom (Check.columnRule bs (Fields.keyStart bs k + 10) (Fields.columnsOf bs (Fields.parentOf bs k))) (Fields.widthOf bs k) 0 && anyFrom (Check.uniqueIs bs (Fields.keyStart bs k + 10) (Fields.widthOf bs k) (Fields.parentOf bs k)) 4 0)
-  unfolding Check.parentRules
-  parent-rest k h = rw (lt-ltb (Fields.parentOf bs k) (Fields.tableCount bs) h)
 
   pub well-no : Check.headerRules bs ≡ false → false ≡ Check.wellFormed bs
   unfolding Check.wellFormed
@@ -59,10 +55,6 @@ module _ (bs : List ℕ) where
   unfolding Check.checkSchema
   answer-1 e = rw e
 
-  pub answer-2 : Check.wellFormed bs ≡ true → allFrom (Check.parentRules bs) (Fields.keyCount bs) 0 ≡ false → Unmatched ≡ Check.checkSchema bs
+  pub answer-0 : Check.wellFormed bs ≡ true → Accepted ≡ Check.checkSchema bs
   unfolding Check.checkSchema
-  answer-2 e f = rw (e, f)
-
-  pub answer-0 : Check.wellFormed bs ≡ true → allFrom (Check.parentRules bs) (Fields.keyCount bs) 0 ≡ true → Accepted ≡ Check.checkSchema bs
-  unfolding Check.checkSchema
-  answer-0 e f = rw (e, f)
+  answer-0 e = rw e

@@ -1,16 +1,15 @@
 -- The schema S of the paper's example: its bytes are accepted, and are that schema. Assumes nothing.
 use mathlib.Core.Path.{_≡_, refl}
-use mathlib.Core.Bool.{true}
-use mathlib.Core.List.{List, [], _∷_}
+use mathlib.Core.Bool.{true, false}
+use mathlib.Core.List.{List, [], _∷_, map}
 use Prim.Native.Nat.{ℕ}
 use lib.IntN.{pos}
-use lib.Count.{ones, onesIn}
 use lib.ListN.{replicate, set}
 use Rattle.schema.specs.declared.Action.the-variants.{Cascade}
 use Rattle.schema.specs.declared.Match.the-variants.{Simple}
-use Rattle.schema.specs.declared.SchemaAnswer.the-variants.{Accepted, Malformed, Unmatched}
+use Rattle.schema.specs.declared.SchemaAnswer.the-variants.{Accepted, Malformed}
 use Rattle.schema.specs.Ranges.{allFrom, anyFrom, andAll, every, listFrom}
-use Rattle.schema.specs.Records.{Schema}
+use Rattle.schema.specs.Records.{Schema, keyOf}
 use Rattle.schema.specs.Bytes
 use Rattle.schema.specs.Fields
 use Rattle.schema.specs.Fields.{schemaOf}
@@ -41,33 +40,36 @@ schemaS =
           record { rows = 4; columns = 1; notNull = 1; uniques = 1 ∷ 0 ∷ 0 ∷ 0 ∷ []; defaultNull = 0; defaults = replicate 8 (pos 0) }
           ∷ record { rows = 4; columns = 2; notNull = 1; uniques = 1 ∷ 0 ∷ 0 ∷ 0 ∷ []; defaultNull = 0; defaults = replicate 8 (pos 0) }
           ∷ [];
-      keys = record { child = 1; parent = 0; deferred = true; onDelete = Cascade; onUpdate = Cascade; childColumns = 1 ∷ []; parentColumns = 0 ∷ []; match = Simple } ∷ [];
+      keys = record { child = 1; parent = 0; deferred = true; onDelete = Cascade; onUpdate = Cascade; childColumns = 1 ∷ []; parentColumns = 0 ∷ []; match = Simple; broken = false } ∷ [];
       room = 8;
     }
 
 pub s-accepted : checkSchema bytesS ≡ Accepted
-unfolding checkSchema Check.wellFormed Check.headerRules Check.startsWith Check.headerRest Check.tableRules Check.sizeRules Check.tableRest Check.maskRule Check.keyRules Check.codeRules Check.keyRest Check.columnRule Check.columnsRule Check.newColumn Check.parentRules Check.uniqueIs Check.maskIs Check.inMask Bytes.bit allFrom anyFrom every andAll ones onesIn bytesS
+unfolding checkSchema Check.wellFormed Check.headerRules Check.startsWith Check.headerRest Check.tableRules Check.sizeRules Check.tableRest Check.maskRule Check.keyRules Check.codeRules Check.keyRest Fields.columnRule Check.columnsRule Check.newColumn Bytes.bit allFrom every andAll bytesS
 s-accepted = refl
 
 pub s-is : schemaOf bytesS ≡ schemaS
-unfolding schemaOf Fields.tableFrom Fields.keyFrom Fields.actionFrom Fields.matchFrom listFrom bytesS schemaS
+unfolding schemaOf Fields.tableFrom Fields.keyFrom Fields.actionFrom Fields.matchFrom Fields.columnRule Fields.uniqueIs Fields.hasParentKey Fields.isBroken Bytes.columnMask allFrom anyFrom listFrom bytesS schemaS
 s-is = refl
 
 pub s-size : Sizes.areaSize schemaS ≡ 433
 unfolding Sizes.areaSize Sizes.rowsSize Sizes.tableSize schemaS
 s-size = refl
 
--- journal room 0 and parent table 9: both refusals would be right, and 1 comes first
-pub broken-twice : checkSchema (set (set bytesS 12 0) 177 9) ≡ Malformed
-unfolding checkSchema Check.wellFormed Check.headerRules Check.startsWith Check.headerRest allFrom every andAll bytesS
-broken-twice = refl
+-- S with bytes of its foreign key's record, or of table 0's first unique key, changed: every one is accepted
+pub drawn : List (List ℕ)
+drawn = bytesS ∷ set bytesS 177 2 ∷ set bytesS 177 255 ∷ set bytesS 186 1 ∷ set bytesS 186 255 ∷ set bytesS 20 0 ∷ []
 
--- parent table 9 alone
-pub unmatched : checkSchema (set bytesS 177 9) ≡ Unmatched
-unfolding checkSchema Check.wellFormed Check.headerRules Check.startsWith Check.headerRest Check.tableRules Check.sizeRules Check.tableRest Check.maskRule Check.keyRules Check.codeRules Check.keyRest Check.columnRule Check.columnsRule Check.newColumn Check.parentRules Check.uniqueIs Check.maskIs Check.inMask Bytes.bit allFrom anyFrom every andAll ones onesIn bytesS
-unmatched = refl
+pub half-drawn : map checkSchema drawn ≡ replicate 6 Accepted
+unfolding checkSchema Check.wellFormed Check.headerRules Check.startsWith Check.headerRest Check.tableRules Check.sizeRules Check.tableRest Check.maskRule Check.keyRules Check.codeRules Check.keyRest Fields.columnRule Check.columnsRule Check.newColumn Bytes.bit allFrom every andAll drawn bytesS
+half-drawn = refl
+
+-- and its key is broken where the parent table is past the tables, a parent column past its columns, or there is no such unique key
+pub broken-keys : map (λ (bs : List ℕ). keyOf (schemaOf bs) 0 .broken) drawn ≡ false ∷ replicate 5 true
+unfolding schemaOf Fields.tableFrom Fields.keyFrom Fields.actionFrom Fields.matchFrom Fields.columnRule Fields.uniqueIs Fields.hasParentKey Fields.isBroken Bytes.columnMask allFrom anyFrom listFrom drawn bytesS
+broken-keys = refl
 
 -- a match that is none
 pub match-2 : checkSchema (set bytesS 190 2) ≡ Malformed
-unfolding checkSchema Check.wellFormed Check.headerRules Check.startsWith Check.headerRest Check.tableRules Check.sizeRules Check.tableRest Check.maskRule Check.keyRules Check.codeRules Check.keyRest Check.columnRule Check.columnsRule Check.newColumn Check.parentRules Check.uniqueIs Check.maskIs Check.inMask Bytes.bit allFrom anyFrom every andAll ones onesIn bytesS
+unfolding checkSchema Check.wellFormed Check.headerRules Check.startsWith Check.headerRest Check.tableRules Check.sizeRules Check.tableRest Check.maskRule Check.keyRules Check.codeRules Check.keyRest Fields.columnRule Check.columnsRule Check.newColumn Bytes.bit allFrom every andAll bytesS
 match-2 = refl

@@ -1,11 +1,12 @@
 -- A field that was read at its place is the field of the schema, and within its bounds. Assumes nothing.
 use mathlib.Core.Path.{_≡_, refl, sym, ap, _∙_}
-use mathlib.Core.Bool.{Bool, true}
+use mathlib.Core.Bool.{Bool, true, false, not}
 use mathlib.Core.List.{List, [], _∷_}
 use Prim.Native.Nat.{ℕ, zero, suc, _+_, _<_, _≤_}
 use native.Mathlib.Nat.{zero-add}
 use native.Mathlib.Omega.{arith}
-use borrow.Author.Tests.{ltb-true}
+use borrow.Author.Tests.{ltb-true, eqb-true, eq-eqb}
+use lib.Count.{ones}
 use lib.Dec.{eqb}
 use lib.IntN.{ℤ, pos}
 use lib.ListN.{length, getD, take, drop}
@@ -13,18 +14,21 @@ use lib.Seq.{getD-take}
 use Rattle.schema.specs.declared.Action.{Action}
 use Rattle.schema.specs.declared.Match.{Match}
 use Rattle.schema.specs.declared.SchemaAnswer.the-variants.{Accepted}
-use Rattle.schema.specs.Ranges.{listFrom}
+use Rattle.schema.specs.Ranges.{anyFrom, listFrom}
 use Rattle.schema.specs.Bounds.{Within, Columns}
 use Rattle.schema.specs.Records.{Table, ForeignKey, tableOf, keyOf}
 use Rattle.schema.specs.Bytes
+use Rattle.schema.specs.Bytes.{columnMask}
 use Rattle.schema.specs.Fields
 use Rattle.schema.specs.Fields.{tableFrom, keyFrom, schemaOf}
 use Rattle.schema.specs.Check
-use Rattle.schema.proofs.RangeLaws.{all-at}
+use Rattle.schema.proofs.RangeLaws.{all-at, any-same}
 use Rattle.schema.proofs.Formed.{formed, Sizes, Codes}
+use Rattle.schema.proofs.CheckLaws.{parent-no}
 use Rattle.schema.proofs.ListLaws.{length-from, get-list}
 use Rattle.schema.proofs.SchemaLaws.{tables-are, keys-are, room-is, table-is, key-is, accepted-formed}
-use Rattle.schema.proofs.KeyLaws.{parent-key, parent-below}
+use Rattle.schema.proofs.KeyLaws.{unique-byte, parent-distinct, parent-rest, parent-key, parent-below}
+use Rattle.schema.proofs.MaskLaws.{mask-ones}
 
 pub byte-assoc : (bs : List ℕ) (a b i : ℕ) → Bytes.byte bs (a + (b + i)) ≡ Bytes.byte bs (a + b + i)
 byte-assoc bs a b i = let e : a + (b + i) ≡ a + b + i = omega arith in ap (Bytes.byte bs) e
@@ -119,15 +123,42 @@ module _ (bs : List ℕ) (acc : Check.checkSchema bs ≡ Accepted) where
     codes-here : Codes bs k
     codes-here = formed bs w .key k (omega (arith, keys-are bs)) .codes
 
+    width-is : length (keyOf (schemaOf bs) k .childColumns) ≡ Fields.widthOf bs k
+    unfolding keyFrom
+    width-is = ap (λ (x : ForeignKey). length (x .childColumns)) (key-is bs k h) ∙ length-from (Fields.childColumnOf bs k) (Fields.widthOf bs k) 0
+
     pub read-child : {r : ℕ} → r ≡ Fields.childOf bs k → (r ≡ keyOf (schemaOf bs) k .child) × (r < length (schemaOf bs .tables))
     unfolding keyFrom
     read-child e = (e ∙ sym (ap (λ (x : ForeignKey). x .child) (key-is bs k h)), omega (arith, codes-here .child, tables-are bs))
 
-    pub read-parent : {r : ℕ} → r ≡ Fields.parentOf bs k → (r ≡ keyOf (schemaOf bs) k .parent) × (r < length (schemaOf bs .tables))
+    pub read-parent : {r : ℕ} → r ≡ Fields.parentOf bs k → r ≡ keyOf (schemaOf bs) k .parent
     unfolding keyFrom
-    read-parent e =
-        let q = e ∙ sym (ap (λ (x : ForeignKey). x .parent) (key-is bs k h)) in
-        (q, rw q (parent-key bs acc k h .there))
+    read-parent e = e ∙ sym (ap (λ (x : ForeignKey). x .parent) (key-is bs k h))
+
+    pub read-broken : {r : Bool} → r ≡ Fields.isBroken bs k → r ≡ keyOf (schemaOf bs) k .broken
+    unfolding keyFrom
+    read-broken e = e ∙ sym (ap (λ (x : ForeignKey). x .broken) (key-is bs k h))
+
+    -- where the parent table is not there
+    pub broken-table : Fields.tableCount bs ≤ Fields.parentOf bs k → true ≡ keyOf (schemaOf bs) k .broken
+    unfolding Fields.isBroken
+    broken-table l = read-broken (ap not (parent-no bs k l))
+
+    -- else by a number that no mask tells from that of the parent columns
+    pub broken-mask : (m : ℕ) → Fields.parentOf bs k < Fields.tableCount bs → ((u : ℕ) → u < 256 → eqb u m ≡ eqb u (columnMask (Fields.parentColumnOf bs k) (Fields.widthOf bs k))) → not (anyFrom (λ i. eqb (Fields.uniqueOf bs (Fields.parentOf bs k) i) m) 4 0) ≡ keyOf (schemaOf bs) k .broken
+    unfolding Fields.isBroken Fields.uniqueIs
+    broken-mask m l e =
+        let f = formed bs w in
+        read-broken
+        (ap not
+        (any-same _ (Fields.uniqueIs bs k) 4 0 (λ i g. e (Fields.uniqueOf bs (Fields.parentOf bs k) i) (unique-byte bs f (Fields.parentOf bs k) l i (omega arith)))
+        ∙ sym (parent-rest bs f k l)))
+
+    -- and a mask that is that of the parent columns has as many ones
+    pub parent-ones : (m : ℕ) → ((u : ℕ) → u < 256 → eqb u m ≡ eqb u (columnMask (Fields.parentColumnOf bs k) (Fields.widthOf bs k))) → (u : ℕ) → u < 256 → u ≡ m → ones u ≡ length (keyOf (schemaOf bs) k .childColumns)
+    parent-ones m e u l q =
+        let is : u ≡ columnMask (Fields.parentColumnOf bs k) (Fields.widthOf bs k) = eqb-true _ _ (sym (e u l) ∙ eq-eqb u m q) in
+        ap ones is ∙ mask-ones (Fields.parentColumnOf bs k) (Fields.widthOf bs k) (parent-distinct bs (formed bs w) k (omega (arith, keys-are bs))) ∙ sym width-is
 
     pub read-deferred : {r : Bool} → r ≡ eqb (Fields.deferredOf bs k) 1 → r ≡ keyOf (schemaOf bs) k .deferred
     unfolding keyFrom
@@ -145,10 +176,6 @@ module _ (bs : List ℕ) (acc : Check.checkSchema bs ≡ Accepted) where
     unfolding keyFrom
     read-match e = e ∙ sym (ap (λ (x : ForeignKey). x .match) (key-is bs k h))
 
-    width-is : length (keyOf (schemaOf bs) k .childColumns) ≡ Fields.widthOf bs k
-    unfolding keyFrom
-    width-is = ap (λ (x : ForeignKey). length (x .childColumns)) (key-is bs k h) ∙ length-from (Fields.childColumnOf bs k) (Fields.widthOf bs k) 0
-
     -- as many parent columns as child columns
     pub same-width : length (keyOf (schemaOf bs) k .parentColumns) ≡ length (keyOf (schemaOf bs) k .childColumns)
     unfolding keyFrom
@@ -162,12 +189,12 @@ module _ (bs : List ℕ) (acc : Check.checkSchema bs ≡ Accepted) where
       column-within = omega (arith, width-is, codes-here .width)
 
       below : Fields.childColumnOf bs k i < Fields.columnsOf bs (Fields.childOf bs k)
-      unfolding Check.columnRule
+      unfolding Fields.columnRule
       below =
           let f = formed bs w .key k (omega (arith, keys-are bs)) .childColumns in
           ltb-true _ _
           (rw (zero-add i) at
-          (all-at (Check.columnRule bs (Fields.keyStart bs k + 6) (Fields.columnsOf bs (Fields.childOf bs k))) (Fields.widthOf bs k) 0 f i (omega (arith, width-is))))
+          (all-at (Fields.columnRule bs (Fields.keyStart bs k + 6) (Fields.columnsOf bs (Fields.childOf bs k))) (Fields.widthOf bs k) 0 f i (omega (arith, width-is))))
 
       pub read-child-column : {r : ℕ} → r ≡ Fields.childColumnOf bs k i → (r ≡ getD (keyOf (schemaOf bs) k .childColumns) i 0) × (r < tableOf (schemaOf bs) (keyOf (schemaOf bs) k .child) .columns)
       unfolding keyFrom tableFrom
@@ -177,12 +204,13 @@ module _ (bs : List ℕ) (acc : Check.checkSchema bs ≡ Accepted) where
             rw (key-is bs k h, t, e) below,
           )
 
-      pub read-parent-column : {r : ℕ} → r ≡ Fields.parentColumnOf bs k i → (r ≡ getD (keyOf (schemaOf bs) k .parentColumns) i 0) × (r < tableOf (schemaOf bs) (keyOf (schemaOf bs) k .parent) .columns)
+      -- a key that is not broken has its parent columns in the parent table
+      pub read-parent-column : keyOf (schemaOf bs) k .broken ≡ false → {r : ℕ} → r ≡ Fields.parentColumnOf bs k i → (r ≡ getD (keyOf (schemaOf bs) k .parentColumns) i 0) × (r < tableOf (schemaOf bs) (keyOf (schemaOf bs) k .parent) .columns)
       unfolding keyFrom tableFrom
-      read-parent-column e =
-          let there : Fields.parentOf bs k < length (schemaOf bs .tables) = rw (key-is bs k h) at (parent-key bs acc k h .there) in (
+      read-parent-column u e =
+          let there : Fields.parentOf bs k < length (schemaOf bs .tables) = rw (key-is bs k h) at (parent-key bs acc k h u .there) in (
             e ∙ sym (ap (λ (x : ForeignKey). getD (x .parentColumns) i 0) (key-is bs k h) ∙ get-list (Fields.parentColumnOf bs k) (Fields.widthOf bs k) i 0 (omega (arith, width-is))),
-            rw (key-is bs k h, table-is bs (Fields.parentOf bs k) there, e) (parent-below bs acc k h i (omega (arith, width-is))),
+            rw (key-is bs k h, table-is bs (Fields.parentOf bs k) there, e) (parent-below bs acc k h u i (omega (arith, width-is))),
           )
 
     -- all columns, zeros behind them
@@ -194,10 +222,10 @@ module _ (bs : List ℕ) (acc : Check.checkSchema bs ≡ Accepted) where
         (λ i l. rw (← (read-child-column i l refl .0)) (read-child-column i l refl .1))
         e
 
-    pub read-parent-columns : {r : List ℕ} → r ≡ Bytes.four bs (Fields.keyStart bs k + 10) → (take (length (keyOf (schemaOf bs) k .childColumns)) r ≡ keyOf (schemaOf bs) k .parentColumns) × Columns (suc (tableOf (schemaOf bs) (keyOf (schemaOf bs) k .parent) .columns)) (length (keyOf (schemaOf bs) k .childColumns)) r
+    pub read-parent-columns : keyOf (schemaOf bs) k .broken ≡ false → {r : List ℕ} → r ≡ Bytes.four bs (Fields.keyStart bs k + 10) → (take (length (keyOf (schemaOf bs) k .childColumns)) r ≡ keyOf (schemaOf bs) k .parentColumns) × Columns (suc (tableOf (schemaOf bs) (keyOf (schemaOf bs) k .parent) .columns)) (length (keyOf (schemaOf bs) k .childColumns)) r
     unfolding keyFrom
-    read-parent-columns e =
+    read-parent-columns u e =
         columns-are bs (Fields.keyStart bs k + 10) _ _ (omega (arith, width-is, codes-here .width))
         (ap (λ (x : ForeignKey). x .parentColumns) (key-is bs k h) ∙ ap (λ (n : ℕ). listFrom (Fields.parentColumnOf bs k) n 0) (sym width-is))
-        (λ i l. rw (← (read-parent-column i l refl .0)) (read-parent-column i l refl .1))
+        (λ i l. rw (← (read-parent-column i l u refl .0)) (read-parent-column i l u refl .1))
         e

@@ -83,7 +83,7 @@ table-tests bs t e =
 -- what the rules of a foreign key's record say, as tests
 pub record KeyTests (bs : List ℕ) (k : ℕ) : Type 0 where
   pub codes : Codes bs k
-  pub childColumns : allFrom (Check.columnRule bs (Fields.keyStart bs k + 6) (Fields.columnsOf bs (Fields.childOf bs k))) (Fields.widthOf bs k) 0 ≡ true
+  pub childColumns : allFrom (Fields.columnRule bs (Fields.keyStart bs k + 6) (Fields.columnsOf bs (Fields.childOf bs k))) (Fields.widthOf bs k) 0 ≡ true
   pub childRule : Check.columnsRule bs (Fields.keyStart bs k + 6) (Fields.widthOf bs k) ≡ true
   pub parentRule : Check.columnsRule bs (Fields.keyStart bs k + 10) (Fields.widthOf bs k) ≡ true
 

@@ -1,28 +1,28 @@
 -- The foreign keys of an accepted schema. Assumes nothing.
-use mathlib.Core.Path.{_≡_, refl, ap}
-use mathlib.Core.Bool.{Bool, true, false, false≢true}
+use mathlib.Core.Path.{_≡_, refl, sym, ap, _∙_}
+use mathlib.Core.Bool.{Bool, true, false, false≢true, _&&_}
 use mathlib.Core.List.{List}
 use mathlib.Core.Logic.{_⊎_, inl, inr}
-use Prim.Native.Nat.{ℕ, zero, suc, _+_, _-_, _<_, _≤_}
+use Prim.Native.Nat.{ℕ, zero, suc, _+_, _-_, _/_, _^_, _<_, _≤_}
 use native.Mathlib.Nat.{zero-add}
 use native.Mathlib.Omega.{arith}
-use borrow.Author.Tests.{ltb-true, eqb-true, eqb-false, not-true}
+use borrow.Author.Tests.{ltb-true, lt-ltb, eqb-true, eqb-false, not-true, not-false}
 use lib.Dec.{ltb, eqb}
-use lib.Count.{ones}
+use lib.Pow.{pow-mono}
 use lib.ListN.{length}
 use Rattle.schema.specs.declared.SchemaAnswer.the-variants.{Accepted}
 use Rattle.schema.specs.Ranges.{allFrom, anyFrom, listFrom}
-use Rattle.schema.specs.Records.{keyOf}
+use Rattle.schema.specs.Records.{ForeignKey, keyOf}
 use Rattle.schema.specs.Bytes
-use Rattle.schema.specs.Bytes.{bit}
+use Rattle.schema.specs.Bytes.{bit, columnMask}
 use Rattle.schema.specs.Fields
 use Rattle.schema.specs.Fields.{tableFrom, keyFrom, schemaOf}
 use Rattle.schema.specs.Check
 use Rattle.schema.specs.ParentKey.{Mem, ParentKey}
-use Rattle.schema.proofs.RangeLaws.{and-left, and-right, all-at}
-use Rattle.schema.proofs.Formed.{formed, and3}
-use Rattle.schema.proofs.MaskLaws.{Distinct, Found, exact}
-use Rattle.schema.proofs.SchemaLaws.{tables-are, keys-are, table-is, key-is, accepted-formed, accepted-parents}
+use Rattle.schema.proofs.RangeLaws.{and-left, and-false, all-at, all-each}
+use Rattle.schema.proofs.Formed.{Formed, formed, and3}
+use Rattle.schema.proofs.MaskLaws.{Distinct, Found, mask-each, mask-only, mask-below, quotient-none}
+use Rattle.schema.proofs.SchemaLaws.{tables-are, keys-are, table-is, key-is, accepted-formed}
 
 -- one number of the range passes the test
 pub record Some (p : ℕ → Bool) (n : ℕ) : Type 0 where
@@ -71,62 +71,91 @@ distinct-is bs at n e i j h l q =
     let c : Check.differ bs at i j ≡ true = rw (zero-add j) at (all-at (Check.differ bs at i) i 0 b j l) in
     eqb-false (Bytes.byte bs (at + i)) (Bytes.byte bs (at + j)) (not-true _ c) q
 
-module _ (bs : List ℕ) (t at n i : ℕ) (d : Distinct (λ i. Bytes.byte bs (at + i)) n) where
+module _ (bs : List ℕ) (f : Formed bs) where
+  -- a unique key has no bit at the table's columns and above
+  pub unique-high : (t : ℕ) → t < Fields.tableCount bs → (i : ℕ) → i < 4 → Fields.uniqueOf bs t i / 2 ^ Fields.columnsOf bs t ≡ 0
+  unfolding Check.maskRule
+  unique-high t h i l =
+      let r = all-at (Check.maskRule bs (Fields.tableStart t + 3) (Fields.columnsOf bs t)) 6 0 (f .table t h .masks) (i + 1) (omega arith) in
+      let at : Fields.tableStart t + 3 + (0 + (i + 1)) ≡ Fields.tableStart t + 4 + i = omega arith in
+      eqb-true _ _ (rw at at r)
+
+  pub unique-byte : (t : ℕ) → t < Fields.tableCount bs → (i : ℕ) → i < 4 → Fields.uniqueOf bs t i < 256
+  unique-byte t h i l =
+      let q : Fields.uniqueOf bs t i < 2 ^ Fields.columnsOf bs t = quotient-none _ _ (unique-high t h i l) in
+      let b : 2 ^ Fields.columnsOf bs t ≤ 2 ^ 8 = pow-mono (f .table t h .sizes .columns .high) in
+      omega arith
+
+  pub parent-distinct : (k : ℕ) → k < Fields.keyCount bs → Distinct (Fields.parentColumnOf bs k) (Fields.widthOf bs k)
+  parent-distinct k h = distinct-is bs (Fields.keyStart bs k + 10) (Fields.widthOf bs k) (f .key k h .parentRule)
+
+  module _ (k : ℕ) (h : Fields.parentOf bs k < Fields.tableCount bs) where
+    abbrev t : ℕ
+    t = Fields.parentOf bs k
+
+    -- parent columns that are a unique key are there
+    columns-there : anyFrom (Fields.uniqueIs bs k) 4 0 ≡ true → allFrom (Fields.columnRule bs (Fields.keyStart bs k + 10) (Fields.columnsOf bs t)) (Fields.widthOf bs k) 0 ≡ true
+    unfolding Fields.uniqueIs Fields.columnRule
+    columns-there e =
+        let s = any-some (Fields.uniqueIs bs k) 4 0 e in
+        let l : s .place < 4 = omega (arith, s .below) in
+        let m : Fields.uniqueOf bs t (s .place) ≡ columnMask (Fields.parentColumnOf bs k) (Fields.widthOf bs k) = eqb-true _ _ (s .passes) in
+        let q : Fields.uniqueOf bs t (s .place) < 2 ^ Fields.columnsOf bs t = quotient-none _ _ (unique-high t h (s .place) l) in
+        all-each (Fields.columnRule bs (Fields.keyStart bs k + 10) (Fields.columnsOf bs t)) (Fields.widthOf bs k) 0
+        (λ i g. rw (zero-add i) (lt-ltb (Fields.parentColumnOf bs k i) (Fields.columnsOf bs t) (mask-below (Fields.parentColumnOf bs k) (Fields.widthOf bs k) (Fields.columnsOf bs t) (rw (← m) q) i g)))
+
+    -- so it is enough to look for the unique key
+    pub parent-rest : Fields.hasParentKey bs k ≡ anyFrom (Fields.uniqueIs bs k) 4 0
+    unfolding Fields.hasParentKey
+    parent-rest = go (anyFrom (Fields.uniqueIs bs k) 4 0) refl
+      where
+        go : (b : Bool) → anyFrom (Fields.uniqueIs bs k) 4 0 ≡ b → ltb t (Fields.tableCount bs) && allFrom (Fields.columnRule bs (Fields.keyStart bs k + 10) (Fields.columnsOf bs t)) (Fields.widthOf bs k) 0 && anyFrom (Fields.uniqueIs bs k) 4 0 ≡ anyFrom (Fields.uniqueIs bs k) 4 0
+        go true e = rw (lt-ltb t (Fields.tableCount bs) h, columns-there e)
+        go false e = rw e (and-false (ltb t (Fields.tableCount bs) && allFrom (Fields.columnRule bs (Fields.keyStart bs k + 10) (Fields.columnsOf bs t)) (Fields.widthOf bs k) 0))
+
+-- a foreign key of an accepted schema that is not broken
+module _ (bs : List ℕ) (e : Check.checkSchema bs ≡ Accepted) (k : ℕ) (h : k < length (schemaOf bs .keys)) (u : keyOf (schemaOf bs) k .broken ≡ false) where
   abbrev p : ℕ → ℕ
-  p j = Bytes.byte bs (at + j)
+  p = Fields.parentColumnOf bs k
 
-  abbrev m : ℕ
-  m = Fields.uniqueOf bs t i
+  abbrev n : ℕ
+  n = Fields.widthOf bs k
 
-  module _ (u : Check.uniqueIs bs at n t i ≡ true) where
-    count : ones m ≡ n
-    unfolding Check.uniqueIs Check.maskIs
-    count = eqb-true (ones m) n (and-left (eqb (ones m) n) (allFrom (Check.inMask bs at m) n 0) u)
+  form : Formed bs
+  form = formed bs (accepted-formed bs e)
 
-    set : (j : ℕ) → j < n → bit (p j) m ≡ true
-    unfolding Check.uniqueIs Check.maskIs Check.inMask
-    set j h = rw (zero-add j) at (all-at (Check.inMask bs at m) n 0 (and-right (eqb (ones m) n) (allFrom (Check.inMask bs at m) n 0) u) j h)
+  has : Fields.hasParentKey bs k ≡ true
+  unfolding keyFrom Fields.isBroken
+  has = not-false _ (sym (ap (λ (x : ForeignKey). x .broken) (key-is bs k h)) ∙ u)
 
-    pub unique-each : (c : ℕ) → Mem c (listFrom (λ j. Bytes.byte bs (at + j)) n 0) → bit c (Fields.uniqueOf bs t i) ≡ true
-    unique-each c h = out-from p n 0 c (bit c m ≡ true) (λ j g e. rw e (set j (omega (arith, zero-add n)))) h
+  parts : (ltb (Fields.parentOf bs k) (Fields.tableCount bs) ≡ true) × (allFrom (Fields.columnRule bs (Fields.keyStart bs k + 10) (Fields.columnsOf bs (Fields.parentOf bs k))) n 0 ≡ true) × (anyFrom (Fields.uniqueIs bs k) 4 0 ≡ true)
+  unfolding Fields.hasParentKey
+  parts = and3 _ _ _ has
 
-    pub unique-only : (c : ℕ) → bit c (Fields.uniqueOf bs t i) ≡ true → Mem c (listFrom (λ j. Bytes.byte bs (at + j)) n 0)
-    unique-only c h =
-        let f : Found p n c = exact p n m d set count c h in
-        rw (← f .is) (in-from p n 0 (f .place) (omega arith) (omega (arith, f .below, zero-add n)))
+  distinct : Distinct p n
+  distinct = parent-distinct bs form k (omega (arith, keys-are bs))
 
--- an accepted schema's foreign keys have their parent keys
-pub parent-key : (bs : List ℕ) → Check.checkSchema bs ≡ Accepted → (k : ℕ) → k < length (schemaOf bs .keys) → ParentKey (schemaOf bs) (keyOf (schemaOf bs) k)
-unfolding Check.parentRules tableFrom keyFrom
-parent-key bs e k h =
-    let t : ℕ = Fields.parentOf bs k in
-    let n : ℕ = Fields.widthOf bs k in
-    let at : ℕ = Fields.keyStart bs k + 10 in
-    let f = formed bs (accepted-formed bs e) .key k (omega (arith, keys-are bs)) in
-    let r =
-    and3 (ltb t (Fields.tableCount bs)) (allFrom (Check.columnRule bs at (Fields.columnsOf bs t)) n 0) (anyFrom (Check.uniqueIs bs at n t) 4 0)
-    (accepted-parents bs e k h) in
-    let s = any-some (Check.uniqueIs bs at n t) 4 0 (r .2) in
-    let l : s .place < 4 = omega (arith, s .below) in
-    let d = distinct-is bs at n (f .parentRule) in
-    let there : t < length (schemaOf bs .tables) = omega (arith, ltb-true t (Fields.tableCount bs) (r .0), tables-are bs) in
-    rw (key-is bs k h)
-    record {
-      there = there;
-      unique = Fields.uniqueOf bs t (s .place);
-      listed = rw (table-is bs t there) (in-from (Fields.uniqueOf bs t) 4 0 (s .place) (omega arith) (omega arith));
-      each = unique-each bs t at n (s .place) d (s .passes);
-      only = unique-only bs t at n (s .place) d (s .passes);
-    }
+  -- it has its parent key
+  pub parent-key : ParentKey (schemaOf bs) (keyOf (schemaOf bs) k)
+  unfolding Fields.uniqueIs tableFrom keyFrom
+  parent-key =
+      let t : ℕ = Fields.parentOf bs k in
+      let s = any-some (Fields.uniqueIs bs k) 4 0 (parts .2) in
+      let l : s .place < 4 = omega (arith, s .below) in
+      let m : Fields.uniqueOf bs t (s .place) ≡ columnMask p n = eqb-true _ _ (s .passes) in
+      let there : t < length (schemaOf bs .tables) = omega (arith, ltb-true t (Fields.tableCount bs) (parts .0), tables-are bs) in
+      rw (key-is bs k h)
+      record {
+        there = there;
+        unique = Fields.uniqueOf bs t (s .place);
+        listed = rw (table-is bs t there) (in-from (Fields.uniqueOf bs t) 4 0 (s .place) (omega arith) (omega arith));
+        each = λ c q. rw m (out-from p n 0 c (bit c (columnMask p n) ≡ true) (λ j g e. rw e (mask-each p n distinct j (omega (arith, zero-add n)))) q);
+        only = λ c q.
+            let f : Found p n c = mask-only p n distinct c (rw m at q) in
+            rw (← f .is) (in-from p n 0 (f .place) (omega arith) (omega (arith, f .below, zero-add n)));
+      }
 
--- the parent columns are below the parent table's
-pub parent-below : (bs : List ℕ) → Check.checkSchema bs ≡ Accepted → (k : ℕ) → k < length (schemaOf bs .keys) → (i : ℕ) → i < Fields.widthOf bs k → Fields.parentColumnOf bs k i < Fields.columnsOf bs (Fields.parentOf bs k)
-unfolding Check.parentRules Check.columnRule
-parent-below bs e k h i l =
-    let t : ℕ = Fields.parentOf bs k in
-    let n : ℕ = Fields.widthOf bs k in
-    let at : ℕ = Fields.keyStart bs k + 10 in
-    let r =
-    and3 (ltb t (Fields.tableCount bs)) (allFrom (Check.columnRule bs at (Fields.columnsOf bs t)) n 0) (anyFrom (Check.uniqueIs bs at n t) 4 0)
-    (accepted-parents bs e k h) in
-    ltb-true _ _ (rw (zero-add i) at (all-at (Check.columnRule bs at (Fields.columnsOf bs t)) n 0 (r .1) i l))
+  -- its parent columns are below the parent table's
+  pub parent-below : (i : ℕ) → i < Fields.widthOf bs k → Fields.parentColumnOf bs k i < Fields.columnsOf bs (Fields.parentOf bs k)
+  unfolding Fields.columnRule
+  parent-below i l = ltb-true _ _ (rw (zero-add i) at (all-at (Fields.columnRule bs (Fields.keyStart bs k + 10) (Fields.columnsOf bs (Fields.parentOf bs k))) n 0 (parts .1) i l))

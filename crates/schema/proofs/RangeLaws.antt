@@ -1,5 +1,5 @@
 -- Laws of tests over a range, as a loop with `while j < n` uses them: what is left at j is n - j numbers from j on. Assumes nothing.
-use mathlib.Core.Path.{_≡_, refl, ap, _∙_}
+use mathlib.Core.Path.{_≡_, refl, ap, ap₂, _∙_}
 use mathlib.Core.Bool.{Bool, true, false, _&&_, _||_, false≢true}
 use mathlib.Core.List.{List, [], _∷_}
 use Prim.Native.Nat.{ℕ, zero, suc, _+_, _-_, _<_, _≤_}
@@ -16,6 +16,10 @@ and-left false b h = h
 pub and-right : (a b : Bool) → a && b ≡ true → b ≡ true
 and-right true b h = h
 and-right false b h = absurd (false≢true h)
+
+pub and-false : (a : Bool) → a && false ≡ false
+and-false true = refl
+and-false false = refl
 
 and-head : (a : Bool) (bs : List Bool) → andAll a bs ≡ true → a ≡ true
 unfolding andAll
@@ -58,9 +62,6 @@ module _ (p : ℕ → Bool) where
   unfolding allFrom
   all-more n j h = let e : n - j ≡ suc (n - suc j) = omega arith in rw (add-one, e)
 
-  pub any-start : (n : ℕ) → anyFrom p n 0 ≡ anyFrom p (n - 0) 0
-  any-start n = let e : n - 0 ≡ n = omega arith in rw e
-
   pub any-none : (n j : ℕ) → n ≤ j → anyFrom p (n - j) j ≡ false
   unfolding anyFrom
   any-none n j h = let e : n - j ≡ 0 = omega arith in rw e
@@ -90,3 +91,18 @@ all-at p (suc n) j e zero h = rw add-zero (and-left (p j) (allFrom p n (suc j)) 
 all-at p (suc n) j e (suc d) h =
     let q : j + suc d ≡ suc j + d = omega arith in
     rw q (all-at p n (suc j) (and-right (p j) (allFrom p n (suc j)) e) d (omega arith))
+
+-- and where each passes, all do
+pub all-each : (p : ℕ → Bool) (n j : ℕ) → ((d : ℕ) → d < n → p (j + d) ≡ true) → allFrom p n j ≡ true
+unfolding allFrom
+all-each p zero j e = refl
+all-each p (suc n) j e =
+    let a : p j ≡ true = rw add-zero at (e 0 (omega arith)) in
+    let b : allFrom p n (suc j) ≡ true = all-each p n (suc j) (λ d h. let q : suc j + d ≡ j + suc d = omega arith in rw q (e (suc d) (omega arith))) in
+    rw (a, b)
+
+-- tests that give the same in the range
+pub any-same : (p q : ℕ → Bool) (n j : ℕ) → ((i : ℕ) → i < j + n → p i ≡ q i) → anyFrom p n j ≡ anyFrom q n j
+unfolding anyFrom
+any-same p q zero j e = refl
+any-same p q (suc n) j e = ap₂ (λ (a b : Bool). a || b) (e j (omega arith)) (any-same p q n (suc j) (λ i h. e i (omega arith)))

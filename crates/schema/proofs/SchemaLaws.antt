@@ -7,10 +7,8 @@ use native.Mathlib.Omega.{arith}
 use borrow.Author.Tests.{le-leb}
 use lib.Dec.{leb}
 use lib.ListN.{length}
-use native.Mathlib.Nat.{zero-add}
-use Rattle.schema.specs.declared.SchemaAnswer.the-variants.{Accepted, Malformed, Unmatched}
-use Rattle.schema.specs.Ranges.{all, allFrom}
-use Rattle.schema.proofs.RangeLaws.{all-at}
+use Rattle.schema.specs.declared.SchemaAnswer.the-variants.{Accepted, Malformed}
+use Rattle.schema.specs.Ranges.{all}
 use Rattle.schema.specs.Records.{Schema, noTable, noKey, tableOf, keyOf}
 use Rattle.schema.specs.Fields
 use Rattle.schema.specs.Fields.{tableFrom, keyFrom, schemaOf}
@@ -56,22 +54,15 @@ module _ (bs : List ℕ) where
           short = all-list (tableFrom bs) (λ t. leb (t .rows) 1024) (Fields.tableCount bs) (λ t h. le-leb (Fields.rowsOf bs t) 1024 (f .table t h .sizes .rows .high));
         }
 
--- an accepted schema breaks no rule of refusal 1, and every foreign key has its parent key
+-- an accepted schema breaks no rule of refusal 1
 module _ (bs : List ℕ) (e : Check.checkSchema bs ≡ Accepted) where
-  both : (a b : Bool) → cond a (cond b Accepted Unmatched) Malformed ≡ Accepted → (a ≡ true) × (b ≡ true)
-  both true true h = (refl, refl)
-  both true false h = let z : _≡_ {A = ℕ} 0 1 = cc in absurd (omega arith)
-  both false b h = let z : _≡_ {A = ℕ} 0 1 = cc in absurd (omega arith)
-
-  parts : (Check.wellFormed bs ≡ true) × (allFrom (Check.parentRules bs) (Fields.keyCount bs) 0 ≡ true)
-  unfolding Check.checkSchema
-  parts = both (Check.wellFormed bs) (allFrom (Check.parentRules bs) (Fields.keyCount bs) 0) e
+  well : (a : Bool) → cond a Accepted Malformed ≡ Accepted → a ≡ true
+  well true h = refl
+  well false h = let z : _≡_ {A = ℕ} 0 1 = cc in absurd (omega arith)
 
   pub accepted-formed : Check.wellFormed bs ≡ true
-  accepted-formed = parts .0
+  unfolding Check.checkSchema
+  accepted-formed = well (Check.wellFormed bs) e
 
   pub accepted-valid : Valid (schemaOf bs)
   accepted-valid = valid bs accepted-formed
-
-  pub accepted-parents : (k : ℕ) → k < length (schemaOf bs .keys) → Check.parentRules bs k ≡ true
-  accepted-parents k h = rw (zero-add k) at (all-at (Check.parentRules bs) (Fields.keyCount bs) 0 (parts .1) k (omega (arith, keys-are bs)))

@@ -2,7 +2,7 @@
 -- Assumes nothing.
 use mathlib.Core.Bool.{Bool}
 use mathlib.Core.List.{List, [], _∷_}
-use Prim.Native.Nat.{ℕ, _+_, _*_, _/_, _%_, _^_}
+use Prim.Native.Nat.{ℕ, zero, suc, _+_, _*_, _/_, _%_, _^_}
 use lib.Dec.{eqb}
 use lib.IntN.{ℤ}
 use lib.ListN.{getD}
@@ -32,3 +32,8 @@ signedWord bs i = toZ w64 (word bs i)
 -- "Bit i of a mask is column i"
 unfoldable pub bit : ℕ → ℕ → Bool
 bit i m = eqb (m / 2 ^ i % 2) 1
+
+-- the mask of the columns p 0, .., p (n - 1), which are distinct
+unfoldable pub columnMask : (ℕ → ℕ) → ℕ → ℕ
+columnMask p zero = 0
+columnMask p (suc n) = columnMask p n + 2 ^ p n

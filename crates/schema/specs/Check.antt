@@ -1,15 +1,14 @@
--- The check of schema bytes, in the paper's order: 1, the bytes break a rule; 2, a foreign key has no parent key, judged after 1 for all records.
+-- The check of schema bytes: refusal 1, the bytes break a rule.
 -- Assumes nothing.
 use mathlib.Core.Bool.{Bool, not, cond, _&&_, _||_}
 use mathlib.Core.List.{List, [], _∷_}
 use Prim.Native.Nat.{ℕ, _+_, _-_, _*_, _/_, _^_}
 use lib.Dec.{leb, ltb, eqb}
-use lib.Count.{ones}
 use lib.ListN.{length}
 use Rattle.schema.specs.Bytes.{byte, half, word, bit}
 use Rattle.schema.specs.declared.SchemaAnswer.{SchemaAnswer}
-use Rattle.schema.specs.declared.SchemaAnswer.the-variants.{Accepted, Malformed, Unmatched}
-use Rattle.schema.specs.Ranges.{allFrom, anyFrom, every}
+use Rattle.schema.specs.declared.SchemaAnswer.the-variants.{Accepted, Malformed}
+use Rattle.schema.specs.Ranges.{allFrom, every}
 use Rattle.schema.specs.Fields
 
 -- lo to hi
@@ -92,10 +91,6 @@ tableRules bs t = sizeRules bs t && tableRest bs t
 abbrev pub actionRule : ℕ → Bool
 actionRule c = leb c 4
 
--- column i of those at `at` is below the table's columns
-unfoldable pub columnRule : List ℕ → ℕ → ℕ → ℕ → Bool
-columnRule bs at columns i = ltb (byte bs (at + i)) columns
-
 -- columns i and j of those at `at` differ
 abbrev pub differ : List ℕ → ℕ → ℕ → ℕ → Bool
 differ bs at i j = not (eqb (byte bs (at + i)) (byte bs (at + j)))
@@ -124,7 +119,7 @@ codeRules bs k =
 unfoldable pub keyRest : List ℕ → ℕ → Bool
 keyRest bs k =
     every
-    (allFrom (columnRule bs (Fields.keyStart bs k + 6) (Fields.columnsOf bs (Fields.childOf bs k))) (Fields.widthOf bs k) 0
+    (allFrom (Fields.columnRule bs (Fields.keyStart bs k + 6) (Fields.columnsOf bs (Fields.childOf bs k))) (Fields.widthOf bs k) 0
     ∷ columnsRule bs (Fields.keyStart bs k + 6) (Fields.widthOf bs k)  -- child columns
     ∷ columnsRule bs (Fields.keyStart bs k + 10) (Fields.widthOf bs k)  -- parent columns
     ∷ isByte bs (Fields.keyStart bs k) 0 15  -- a zero byte
@@ -141,33 +136,12 @@ wellFormed bs =
     && allFrom (tableRules bs) (Fields.tableCount bs) 0
     && allFrom (keyRules bs) (Fields.keyCount bs) 0
 
--- ---- refusal 2
-
--- column i of those at `at` is in the mask
-unfoldable pub inMask : List ℕ → ℕ → ℕ → ℕ → Bool
-inMask bs at m i = bit (byte bs (at + i)) m
-
--- the n columns at `at`, which are distinct, are exactly those of the mask: as many as it has ones, and each in it
-unfoldable pub maskIs : List ℕ → ℕ → ℕ → ℕ → Bool
-maskIs bs at n m = eqb (ones m) n && allFrom (inMask bs at m) n 0
-
--- the n columns at `at` are those of the parent table's unique key i
-unfoldable pub uniqueIs : List ℕ → ℕ → ℕ → ℕ → ℕ → Bool
-uniqueIs bs at n parent i = maskIs bs at n (Fields.uniqueOf bs parent i)
-
-unfoldable pub parentRules : List ℕ → ℕ → Bool
-parentRules bs k =
-    ltb (Fields.parentOf bs k) (Fields.tableCount bs)
-    && allFrom (columnRule bs (Fields.keyStart bs k + 10) (Fields.columnsOf bs (Fields.parentOf bs k))) (Fields.widthOf bs k) 0
-    && anyFrom (uniqueIs bs (Fields.keyStart bs k + 10) (Fields.widthOf bs k) (Fields.parentOf bs k)) 4 0
-
 -- ---- the answer
 
 unfoldable pub checkSchema : List ℕ → SchemaAnswer
-checkSchema bs = cond (wellFormed bs) (cond (allFrom (parentRules bs) (Fields.keyCount bs) 0) Accepted Unmatched) Malformed
+checkSchema bs = cond (wellFormed bs) Accepted Malformed
 
 -- the paper's number of an answer; 0 is accepted
 abbrev pub numberOf : SchemaAnswer → ℕ
 numberOf Accepted = 0
 numberOf Malformed = 1
-numberOf Unmatched = 2

@@ -1,16 +1,16 @@
 -- Schema bytes: where each field stands, and the schema that the bytes are. Little-endian; all fields unsigned except the defaults.
 -- Assumes nothing.
-use mathlib.Core.Bool.{cond}
+use mathlib.Core.Bool.{Bool, not, cond, _&&_}
 use mathlib.Core.List.{List}
 use Prim.Native.Nat.{ℕ, _+_, _*_}
-use lib.Dec.{eqb}
+use lib.Dec.{ltb, eqb}
 use lib.IntN.{ℤ}
-use Rattle.schema.specs.Bytes.{byte, half, signedWord}
+use Rattle.schema.specs.Bytes.{byte, half, signedWord, columnMask}
 use Rattle.schema.specs.declared.Action.{Action}
 use Rattle.schema.specs.declared.Action.the-variants.{NoAction, Restrict, SetNull, SetDefault, Cascade}
 use Rattle.schema.specs.declared.Match.{Match}
 use Rattle.schema.specs.declared.Match.the-variants.{Simple, Full}
-use Rattle.schema.specs.Ranges.{listFrom}
+use Rattle.schema.specs.Ranges.{allFrom, anyFrom, listFrom}
 use Rattle.schema.specs.Records.{Table, ForeignKey, Schema}
 
 -- ---- the header, 16 bytes
@@ -107,6 +107,29 @@ actionFrom c = cond (eqb c 1) Restrict (cond (eqb c 2) SetNull (cond (eqb c 3) S
 unfoldable pub matchFrom : ℕ → Match
 matchFrom c = cond (eqb c 1) Full Simple
 
+-- ---- the parent key
+
+-- column i of those at `at` is below the table's columns
+unfoldable pub columnRule : List ℕ → ℕ → ℕ → ℕ → Bool
+columnRule bs at columns i = ltb (byte bs (at + i)) columns
+
+-- the parent columns of foreign key k, "in any order", are "exactly the columns of" the parent table's unique key i
+unfoldable pub uniqueIs : List ℕ → ℕ → ℕ → Bool
+uniqueIs bs k i = eqb (uniqueOf bs (parentOf bs k) i) (columnMask (parentColumnOf bs k) (widthOf bs k))
+
+-- the parent table and the parent columns are there, and are a unique key
+unfoldable pub hasParentKey : List ℕ → ℕ → Bool
+hasParentKey bs k =
+    ltb (parentOf bs k) (tableCount bs)
+    && allFrom (columnRule bs (keyStart bs k + 10) (columnsOf bs (parentOf bs k))) (widthOf bs k) 0
+    && anyFrom (uniqueIs bs k) 4 0
+
+-- "Such a foreign key (the old refusal 2) is now called broken, and the schema is accepted."
+unfoldable pub isBroken : List ℕ → ℕ → Bool
+isBroken bs k = not (hasParentKey bs k)
+
+-- ---- the foreign key
+
 unfoldable pub keyFrom : List ℕ → ℕ → ForeignKey
 keyFrom bs k =
     record {
@@ -118,6 +141,7 @@ keyFrom bs k =
       childColumns = listFrom (childColumnOf bs k) (widthOf bs k) 0;
       parentColumns = listFrom (parentColumnOf bs k) (widthOf bs k) 0;
       match = matchFrom (matchOf bs k);
+      broken = isBroken bs k;
     }
 
 -- ---- the whole

@@ -1,4 +1,4 @@
--- What an accepted schema's foreign keys are.
+-- What a foreign key of an accepted schema is, where it is not broken.
 -- Assumes nothing.
 use mathlib.Core.Bool.{true}
 use mathlib.Core.Path.{_≡_}

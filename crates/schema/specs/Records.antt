@@ -27,6 +27,7 @@ pub record ForeignKey : Type 0 where
   pub childColumns : List ℕ
   pub parentColumns : List ℕ
   pub match : Match
+  pub broken : Bool  -- it has no parent key
 
 pub record Schema : Type 0 where
   pub tables : List Table
@@ -37,7 +38,7 @@ abbrev pub noTable : Table
 noTable = record { rows = 0; columns = 0; notNull = 0; uniques = []; defaultNull = 0; defaults = [] }
 
 abbrev pub noKey : ForeignKey
-noKey = record { child = 0; parent = 0; deferred = false; onDelete = NoAction; onUpdate = NoAction; childColumns = []; parentColumns = []; match = Simple }
+noKey = record { child = 0; parent = 0; deferred = false; onDelete = NoAction; onUpdate = NoAction; childColumns = []; parentColumns = []; match = Simple; broken = false }
 
 -- table t; one without rows where there is none
 abbrev pub tableOf : Schema → ℕ → Table

@@ -20,6 +20,4 @@ pub enum SchemaAnswer {
     Accepted,
     // Refusal 1: the bytes break a rule.
     Malformed,
-    // Refusal 2: a parent table or column is missing, or there is no matching unique key.
-    Unmatched,
 }
