@@ -1,16 +1,20 @@
 // Fields of schema bytes that break no rule of refusal 1, as the schema that the bytes are has them.
 ghost use mathlib.Core.Path.{_≡_};
+ghost use mathlib.Core.Bool.{false};
 ghost use Prim.Native.Nat.{suc, _+_, _*_, _≤_, _<_};
 ghost use lib.IntN.{pos};
-ghost use lib.Dec.{ltb};
+ghost use lib.Dec.{ltb, eqb};
 ghost use lib.ListN.{length, getD, take};
 ghost use Rattle.schema.specs.Bounds.{Within, Columns};
 ghost use Rattle.schema.specs.Records.{tableOf, keyOf};
 ghost use Rattle.schema.specs.Bytes;
+ghost use Rattle.schema.specs.Bytes.{columnMask};
+ghost use Rattle.schema.specs.Ranges.{anyFrom};
 ghost use Rattle.schema.specs.Fields;
 ghost use Rattle.schema.specs.Fields.{schemaOf};
 ghost use Rattle.schema.specs.Sizes.{tableSize, rowsSize, rowsStart, tableOffset, areaSize};
 ghost use Rattle.schema.specs.Check.{checkSchema};
+ghost use Rattle.fields.specs.Masks.{HasOnes, SameMask};
 use schema::Action;
 use schema::Match;
 use schema::SchemaAnswer;
@@ -126,10 +130,10 @@ pub fn child(bytes: &[u8], k: usize) -> usize
     key_byte(bytes, k, 0)
 }
 
-// The parent table of foreign key k.
+// The parent table of foreign key k; of a broken one it need not be there.
 pub fn parent(bytes: &[u8], k: usize) -> usize
     requires { ⌜ (checkSchema (now bytes) ≡ SchemaAnswer.Accepted) × (k < length (schemaOf (now bytes) .keys)) ⌝ }
-    ensures { λ r. ⌜ (r ≡ keyOf (schemaOf (now (bytes .entry))) k .parent) × (r < length (schemaOf (now (bytes .entry)) .tables)) ⌝ }
+    ensures { λ r. ⌜ r ≡ keyOf (schemaOf (now (bytes .entry))) k .parent ⌝ }
 {
     key_byte(bytes, k, 1)
 }
@@ -215,12 +219,73 @@ pub fn child_columns(bytes: &[u8], k: usize) -> [usize; 8]
     columns_at(bytes, numbers::key_start(bytes, k) + 6)
 }
 
-// The four parent-column bytes of foreign key k, whose columns come first, and four zeros.
+// The four parent-column bytes of foreign key k, which is not broken: its columns come first, and four zeros.
 pub fn parent_columns(bytes: &[u8], k: usize) -> [usize; 8]
-    requires { ⌜ (checkSchema (now bytes) ≡ SchemaAnswer.Accepted) × (k < length (schemaOf (now bytes) .keys)) ⌝ }
+    requires { ⌜ (checkSchema (now bytes) ≡ SchemaAnswer.Accepted) × ((k < length (schemaOf (now bytes) .keys)) × (keyOf (schemaOf (now bytes)) k .broken ≡ false)) ⌝ }
     ensures { λ r. ⌜ (take (length (keyOf (schemaOf (now (bytes .entry))) k .childColumns)) r ≡ keyOf (schemaOf (now (bytes .entry))) k .parentColumns) × Columns (suc (tableOf (schemaOf (now (bytes .entry))) (keyOf (schemaOf (now (bytes .entry))) k .parent) .columns)) (length (keyOf (schemaOf (now (bytes .entry))) k .childColumns)) r ⌝ }
 {
     columns_at(bytes, numbers::key_start(bytes, k) + 10)
+}
+
+// ---- broken keys
+
+// The mask of foreign key k's n parent columns; 256, which is no mask, where one of them is above 7.
+fn parent_mask(bytes: &[u8], k: usize, n: usize) -> usize
+    requires { ⌜ (checkSchema (now bytes) ≡ SchemaAnswer.Accepted) × ((k < length (schemaOf (now bytes) .keys)) × (n ≡ length (keyOf (schemaOf (now bytes)) k .childColumns))) ⌝ }
+    ensures { λ r. ⌜ SameMask r (columnMask (Fields.parentColumnOf (now (bytes .entry)) k) (Fields.widthOf (now (bytes .entry)) k)) ⌝ }
+{
+    let mut m = 0;
+    let mut i = 0;
+    while i < n {
+        let c = key_byte(bytes, k, 10 + i);
+        if 8 <= c {
+            return 256;
+        }
+        m += numbers::power(c);
+        i += 1;
+    }
+    m
+}
+
+// Whether a unique key's mask is the mask m of n columns: it has as many ones, and is m.
+fn mask_is(u: usize, n: usize, m: usize) -> bool
+    requires { ⌜ (u < 256) × HasOnes n m ⌝ }
+    ensures { λ r. ⌜ r ≡ eqb u m ⌝ }
+{
+    if numbers::ones_of(u) != n {
+        return false;
+    }
+    u == m
+}
+
+// Whether table t has a unique key with the mask m of n columns.
+fn has_unique(bytes: &[u8], t: usize, n: usize, m: usize) -> bool
+    requires { ⌜ (checkSchema (now bytes) ≡ SchemaAnswer.Accepted) × ((t < length (schemaOf (now bytes) .tables)) × HasOnes n m) ⌝ }
+    ensures { λ r. ⌜ r ≡ anyFrom (λ i. eqb (Fields.uniqueOf (now (bytes .entry)) t i) m) 4 0 ⌝ }
+{
+    let mut i = 0;
+    while i < 4 {
+        if mask_is(unique_mask(bytes, t, i), n, m) {
+            return true;
+        }
+        i += 1;
+    }
+    false
+}
+
+// Whether foreign key k is broken.
+pub fn is_broken(bytes: &[u8], k: usize) -> bool
+    requires { ⌜ (checkSchema (now bytes) ≡ SchemaAnswer.Accepted) × (k < length (schemaOf (now bytes) .keys)) ⌝ }
+    ensures { λ r. ⌜ r ≡ keyOf (schemaOf (now (bytes .entry))) k .broken ⌝ }
+{
+    let t = parent(bytes, k);
+    let tables = table_count(bytes);
+    if tables <= t {
+        return true;
+    }
+    let n = width(bytes, k);
+    let m = parent_mask(bytes, k, n);
+    !has_unique(bytes, t, n, m)
 }
 
 // ---- the area

@@ -1,6 +1,7 @@
 // Numbers in a slice of bytes, little-endian; bits of a mask; where a foreign key's record begins.
 ghost use mathlib.Core.Path.{_≡_};
-ghost use Prim.Native.Nat.{_+_, _*_, _≤_, _<_};
+ghost use Prim.Native.Nat.{_+_, _*_, _^_, _≤_, _<_};
+ghost use lib.Count.{ones};
 ghost use lib.ListN.{length};
 ghost use mir.Syntax.{w64};
 ghost use mir.Val.{toZ};
@@ -77,6 +78,29 @@ pub fn is_bit(m: usize, i: usize) -> bool
         return false;
     }
     bit_of(i, m)
+}
+
+// A count as a number.
+fn wide_count(x: u32) -> usize
+    ensures { λ r. ⌜ r ≡ x ⌝ }
+{
+    x as usize
+}
+
+// The count of ones in a mask.
+pub fn ones_of(m: usize) -> usize
+    requires { ⌜ m < 256 ⌝ }
+    ensures { λ r. ⌜ r ≡ ones m ⌝ }
+{
+    wide_count(u8::count_ones(m as u8))
+}
+
+// 2 to the power i.
+pub fn power(i: usize) -> usize
+    requires { ⌜ i < 64 ⌝ }
+    ensures { λ r. ⌜ r ≡ 2 ^ i ⌝ }
+{
+    1 << i
 }
 
 // Where the record of foreign key k begins.

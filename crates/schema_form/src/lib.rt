@@ -22,15 +22,15 @@ fn action_rule(code: u8) -> bool
 // Whether column i, counted from at, is below the number of columns.
 fn column_rule(s: &[u8], at: usize, columns: usize, i: usize) -> bool
     requires { ⌜ at + i < length (now s) ⌝ }
-    ensures { λ r. ⌜ r ≡ Check.columnRule (now (s .entry)) at columns i ⌝ }
+    ensures { λ r. ⌜ r ≡ Fields.columnRule (now (s .entry)) at columns i ⌝ }
 {
     numbers::byte_at(s, at + i) < columns
 }
 
 // The same for n columns.
-pub fn column_rules(s: &[u8], at: usize, columns: usize, n: usize) -> bool
+fn column_rules(s: &[u8], at: usize, columns: usize, n: usize) -> bool
     requires { ⌜ at + n ≤ length (now s) ⌝ }
-    ensures { λ r. ⌜ r ≡ allFrom (Check.columnRule (now (s .entry)) at columns) n 0 ⌝ }
+    ensures { λ r. ⌜ r ≡ allFrom (Fields.columnRule (now (s .entry)) at columns) n 0 ⌝ }
 {
     let mut i = 0;
     while i < n {

@@ -1,4 +1,4 @@
-use Rattle.schema.specs.Check.{columnRule}
+use Rattle.schema.specs.Fields.{columnRule}
 use borrow.Author.Needs.{needs}
 use Rattle.schema_form.proofs.column_rule.Statement.{statement}
 use Rattle.schema_form.proofs.column_rule.Tie as tie

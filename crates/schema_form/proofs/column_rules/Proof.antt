@@ -3,7 +3,7 @@ use Prim.Native.Nat.{_-_, _≤_}
 use borrow.Author.Needs.{needs}
 use borrow.Author.Tests.{not-true, not-false}
 use Rattle.schema.specs.Ranges.{allFrom}
-use Rattle.schema.specs.Check.{columnRule}
+use Rattle.schema.specs.Fields.{columnRule}
 use Rattle.schema.proofs.RangeLaws.{all-start, all-none, all-stop, all-go}
 use Rattle.schema_form.proofs.column_rules.Statement.{statement}
 use Rattle.schema_form.proofs.column_rules.Tie as tie
