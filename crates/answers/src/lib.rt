@@ -15,7 +15,6 @@ pub fn refusal_number(refusal: Refusal) -> i64
 {
     match refusal {
         Refusal::SchemaMalformed => 1,
-        Refusal::SchemaUnmatched => 2,
         Refusal::WrongLength => 3,
         Refusal::BadCall => 4,
         Refusal::Damaged => 10,
@@ -31,6 +30,7 @@ pub fn refusal_number(refusal: Refusal) -> i64
         Refusal::OrphansLeft => 20,
         Refusal::CommitWithOrphans => 21,
         Refusal::ListTooShort => 22,
+        Refusal::BrokenKey => 23,
     }
 }
 

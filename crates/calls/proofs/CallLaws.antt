@@ -14,7 +14,7 @@ use Rattle.rules.specs.declared.Answer.the-variants.{Refused}
 use Rattle.rules.specs.declared.Refusal.the-variants.{BadCall, RowState}
 use Rattle.rules.specs.Lists.{𝟘}
 use Rattle.rules.specs.Values.{natOf}
-use Rattle.rules.specs.Rows.{Row, Tables, rowAt, image, live, liveImage, deletedImage}
+use Rattle.rules.specs.Rows.{Row, rowAt, live, liveImage, deletedImage}
 use Rattle.rules.specs.Calls.{parse, insert, update, delete, deleteWhere, updateWhere, seeksNull, setsNull}
 use Rattle.rules.specs.Change.{change}
 use Rattle.rules.specs.Statement.{check, statement, rowStatement}
@@ -23,7 +23,6 @@ use Rattle.rules.specs.Area.{AreaTurn, view, onWords}
 use Rattle.bridge.specs.Fit.{Fit, workOf}
 use Rattle.bridge.specs.Ready.{Sound}
 use Rattle.bridge.proofs.HoldLaws.{turn-same}
-use Rattle.bridge.proofs.KeyLaws.{live-same, get-padded}
 use Rattle.call_form.specs.declared.Request.{Request}
 use Rattle.call_form.specs.declared.Request.the-variants as request
 use Rattle.call_form.specs.Requests.{callOf, judged}
@@ -69,11 +68,6 @@ module _ (b : List ℕ) (a : List ℤ) (t r : ℕ) (f : Fit (schemaOf b) a) wher
       pub delete-stated : v ≡ true → new ≡ deletedImage → x ≡ onWords (act (schemaOf b) (delete t r) (view (schemaOf b) a))
       unfolding act workOf
       delete-stated h g = o ∙ row-stated _ new (sym e ∙ h) ∙ rw g refl
-
--- a row is live where its image is
-pub row-live : (t r : ℕ) (tabs : Tables) {x : Row} → x ≡ image t r tabs → live x ≡ live (rowAt t r tabs)
-unfolding image
-row-live t r tabs e = ap live e ∙ live-same _ _ (get-padded 9 (rowAt t r tabs))
 
 -- ---- every row found
 pub cell-is : (ws : List ℤ) (c i k : ℕ) {m : ℕ} {null : Bool} {v : ℤ} → m ≡ natOf (getD ws 3 𝟘) → null ≡ bit i m → v ≡ getD ws k 𝟘 → record { column = c; null = null; value = v } ≡ cellOf ws c i k

@@ -6,13 +6,11 @@ ghost use lib.IntN.{pos};
 ghost use lib.ListN.{length, getD, drop};
 ghost use Rattle.schema.specs.Records.{tableOf};
 ghost use Rattle.schema.specs.Fields.{schemaOf};
-ghost use Rattle.rules.specs.Rows;
 ghost use Rattle.rules.specs.Values.{natOf};
 ghost use Rattle.rules.specs.Calls;
 ghost use Rattle.rules.specs.Step.{act};
 ghost use Rattle.rules.specs.Area.{view, onWords};
-ghost use Rattle.bridge.specs.Fit.{workOf};
-ghost use Rattle.bridge.specs.Ready.{Sound, Placed};
+ghost use Rattle.bridge.specs.Ready.{Sound};
 ghost use Rattle.area.specs.Spare.{Spare};
 ghost use Rattle.call_form.specs.Requests.{callOf, judged};
 ghost use Rattle.calls.specs.RowCall.{RowCall};
@@ -23,21 +21,12 @@ use found::Given;
 use rules::Answer;
 use rules::Refusal;
 
-// Whether row r of table t is live.
-fn is_live_row(schema: &[u8], area: &[i64], t: usize, r: usize) -> bool
-    requires { ⌜ Placed (now schema) (now area) t r ⌝ }
-    ensures { λ x. ⌜ x ≡ Rows.live (Rows.rowAt t r (workOf (schemaOf (now (schema .entry))) (now (area .entry)) .tabs)) ⌝ }
-{
-    let image = area::image_of(schema, area, t, r);
-    rows::image_live(image)
-}
-
 // Kind 1: insert.
 fn insert(schema: &[u8], area: &mut [i64], call: &[i64], t: usize, r: usize, clean: bool) -> Answer
     requires { ⌜ RowCall (now schema) (now area) (now call) t r × Spare clean (schemaOf (now schema)) (now area) ⌝ }
     ensures { λ x. ⌜ (x, now (area .exit)) ≡ onWords (act (schemaOf (now (schema .entry))) (Calls.insert t r (natOf (getD (now (call .entry)) 3 (pos 0))) (drop 4 (now (call .entry)))) (view (schemaOf (now (schema .entry))) (now (area .entry)))) ⌝ }
 {
-    if is_live_row(schema, area, t, r) {
+    if change_parts::is_live_row(schema, area, t, r) {
         return Answer::Refused(Refusal::RowState);
     }
     let columns = fields::columns(schema, t);
@@ -50,7 +39,7 @@ fn update(schema: &[u8], area: &mut [i64], call: &[i64], t: usize, r: usize, cle
     requires { ⌜ RowCall (now schema) (now area) (now call) t r × Spare clean (schemaOf (now schema)) (now area) ⌝ }
     ensures { λ x. ⌜ (x, now (area .exit)) ≡ onWords (act (schemaOf (now (schema .entry))) (Calls.update t r (natOf (getD (now (call .entry)) 3 (pos 0))) (drop 4 (now (call .entry)))) (view (schemaOf (now (schema .entry))) (now (area .entry)))) ⌝ }
 {
-    if !is_live_row(schema, area, t, r) {
+    if !change_parts::is_live_row(schema, area, t, r) {
         return Answer::Refused(Refusal::RowState);
     }
     let columns = fields::columns(schema, t);
@@ -63,7 +52,7 @@ fn delete(schema: &[u8], area: &mut [i64], t: usize, r: usize, clean: bool) -> A
     requires { ⌜ Sound (now schema) (now area) × ((t < length (schemaOf (now schema) .tables)) × ((r < tableOf (schemaOf (now schema)) t .rows) × Spare clean (schemaOf (now schema)) (now area))) ⌝ }
     ensures { λ x. ⌜ (x, now (area .exit)) ≡ onWords (act (schemaOf (now (schema .entry))) (Calls.delete t r) (view (schemaOf (now (schema .entry))) (now (area .entry)))) ⌝ }
 {
-    if !is_live_row(schema, area, t, r) {
+    if !change_parts::is_live_row(schema, area, t, r) {
         return Answer::Refused(Refusal::RowState);
     }
     statements::change_row(schema, area, t, r, [0i64; 9], clean)

@@ -25,7 +25,7 @@ fn signed(x: u8) -> i64
     x as i64
 }
 
-// The number of what the check of schema bytes finds: 0, 1 or 2.
+// The number of what the check of schema bytes finds: 0 or 1.
 #[no_mangle]
 pub extern "C" fn hoofbook_check_schema(bytes: &[u8]) -> i64
     ensures { λ r. ⌜ r ≡ pos (Check.numberOf (Check.checkSchema (now (bytes .entry)))) ⌝ }
@@ -63,7 +63,7 @@ pub extern "C" fn hoofbook_call(schema: &[u8], area: &mut [i64], call: &[i64]) -
     }
 }
 
-// Lists all orphans, by foreign key and then by row, or refuses by 1, 2, 3, 10 or 22 with nothing written: the one function that writes records into a lent slice of structs.
+// Lists all orphans, by foreign key and then by row, or refuses by 1, 3, 10 or 22 with nothing written: the one function that writes records into a lent slice of structs.
 #[no_mangle]
 pub extern "C" fn hoofbook_list_orphans(schema: &[u8], area: &[i64], list: &mut [Orphan]) -> Listed
     ensures { λ x. ⌜ (x, now (list .exit)) ≡ listOrphans (now (schema .entry)) (now (area .entry)) (now (list .entry)) ⌝ }

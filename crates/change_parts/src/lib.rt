@@ -1,18 +1,21 @@
 // The parts of a row change: its checks, the child rows that its actions take, and the images that they give them.
 ghost use mathlib.Core.Path.{_≡_};
-ghost use mathlib.Core.Bool.{true};
+ghost use mathlib.Core.Bool.{true, false};
 ghost use Prim.Native.Nat.{_<_};
 ghost use lib.ListN.{length};
 ghost use Rattle.schema.specs.Records.{keyOf};
 ghost use Rattle.schema.specs.Fields.{schemaOf};
 ghost use Rattle.schema.specs.Check.{checkSchema};
 ghost use Rattle.rules.specs.Rows;
+ghost use Rattle.rules.specs.Lists;
+ghost use Rattle.rules.specs.Keys;
 ghost use Rattle.rules.specs.Keys.{fullKey};
 ghost use Rattle.rules.specs.KeyValues.{keyValues};
 ghost use Rattle.rules.specs.Change;
 ghost use Rattle.bridge.specs.Fit.{workOf};
 ghost use Rattle.bridge.specs.Ready.{Placed};
 ghost use Rattle.rows.specs.Sought.{soughtValues};
+ghost use Rattle.table_keys.specs.Touched.{BrokenKeys};
 ghost use Rattle.change_parts.specs.Turns.{deletesChild, actionImage, FollowersOf};
 use rows::SoughtKey;
 use rows::TableRows;
@@ -31,13 +34,52 @@ pub struct Followers {
     pub action: Action,
 }
 
-// The checks of a row change, in their order.
-pub fn admits(schema: &[u8], area: &[i64], t: usize, r: usize, image: [i64; 9]) -> Verdict
+// Whether row r of table t is live.
+pub fn is_live_row(schema: &[u8], area: &[i64], t: usize, r: usize) -> bool
     requires { ⌜ Placed (now schema) (now area) t r ⌝ }
+    ensures { λ x. ⌜ x ≡ Rows.live (Rows.rowAt t r (workOf (schemaOf (now (schema .entry))) (now (area .entry)) .tabs)) ⌝ }
+{
+    let image = area::image_of(schema, area, t, r);
+    rows::image_live(image)
+}
+
+// Whether the change of row r of table t to an image uses one of the broken keys that touch the table.
+fn uses_broken(
+    schema: &[u8],
+    area: &[i64],
+    broken: usize,
+    t: usize,
+    r: usize,
+    image: [i64; 9],
+) -> bool
+    requires { ⌜ Placed (now schema) (now area) t r × BrokenKeys (now schema) t broken ⌝ }
+    ensures { λ x. ⌜ x ≡ Lists.any (Keys.usesBroken image t (Rows.rowAt t r (workOf (schemaOf (now (schema .entry))) (now (area .entry)) .tabs))) (schemaOf (now (schema .entry)) .keys) ⌝ }
+{
+    if broken == 0 {
+        return false;
+    }
+    let lives = rows::image_live(image);
+    let lived = is_live_row(schema, area, t, r);
+    table_keys::uses_broken(schema, t, broken, lives, lived)
+}
+
+// The checks of a row change, in their order. `broken` has the broken keys that touch the table.
+pub fn admits(
+    schema: &[u8],
+    area: &[i64],
+    broken: usize,
+    t: usize,
+    r: usize,
+    image: [i64; 9],
+) -> Verdict
+    requires { ⌜ Placed (now schema) (now area) t r × BrokenKeys (now schema) t broken ⌝ }
     ensures { λ x. ⌜ x ≡ Change.admits (schemaOf (now (schema .entry))) t r image (workOf (schemaOf (now (schema .entry))) (now (area .entry))) ⌝ }
 {
     if area::is_full(schema, area) {
         return Verdict::Fail(Refusal::JournalFull);
+    }
+    if uses_broken(schema, area, broken, t, r, image) {
+        return Verdict::Fail(Refusal::BrokenKey);
     }
     if !rows::image_live(image) {
         return Verdict::Pass;
@@ -64,9 +106,10 @@ pub fn action_of(schema: &[u8], k: usize, new: [i64; 9]) -> Action
 
 // ---- the child rows that follow a parent row
 
-// What foreign key k's child rows are gone through by, when a parent row turns from `old`, which has no NULL in its key, to `new`.
+// What the child rows of foreign key k, which is not broken, are gone through by, when a parent row turns from `old`, which has no NULL in
+// its key, to `new`.
 pub fn followers_of(schema: &[u8], k: usize, old: [i64; 9], new: [i64; 9]) -> Followers
-    requires { ⌜ ((checkSchema (now schema) ≡ SchemaAnswer.Accepted) × (k < length (schemaOf (now schema) .keys))) × (fullKey (keyOf (schemaOf (now schema)) k .parentColumns) old ≡ true) ⌝ }
+    requires { ⌜ ((checkSchema (now schema) ≡ SchemaAnswer.Accepted) × ((k < length (schemaOf (now schema) .keys)) × (keyOf (schemaOf (now schema)) k .broken ≡ false))) × (fullKey (keyOf (schemaOf (now schema)) k .parentColumns) old ≡ true) ⌝ }
     ensures { λ x. ⌜ FollowersOf (now (schema .entry)) k new x × (soughtValues (x .key) ≡ keyValues (keyOf (schemaOf (now (schema .entry))) k .parentColumns) old) ⌝ }
 {
     let t = fields::child(schema, k);

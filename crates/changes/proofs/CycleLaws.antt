@@ -1,7 +1,7 @@
 -- Laws of the row change, as the cycle uses them.
 -- Assumes nothing.
 use mathlib.Core.Path.{_≡_, refl, sym, ap, ap₂, _∙_}
-use mathlib.Core.Bool.{true, false}
+use mathlib.Core.Bool.{Bool, true, false, not, _&&_, _||_, true≢false}
 use mathlib.Core.List.{List, [], _∷_}
 use Prim.Native.Nat.{ℕ, zero, suc, _+_, _-_, _≤_, _<_}
 use native.Mathlib.Numerals.{add-one}
@@ -19,7 +19,7 @@ use Rattle.rules.specs.declared.Verdict.{Verdict}
 use Rattle.rules.specs.declared.Verdict.the-variants.{Pass, Fail}
 use Rattle.rules.specs.Lists.{upFrom}
 use Rattle.rules.specs.Rows.{Row, image, live}
-use Rattle.rules.specs.Keys.{fullKey, fires}
+use Rattle.rules.specs.Keys.{fullKey, sameParentKey, fires}
 use Rattle.rules.specs.Book.{Work, write}
 use Rattle.rules.specs.Change.{Change, go, then, given, admits, admitted, actionOf, taken, keyTurn, actions, change}
 use Rattle.rules.specs.KeyValues.{keyValues, childHasKey, turnByValues, childrenByValues}
@@ -28,6 +28,7 @@ use Rattle.schema.proofs.RangeLaws.{and-left, and-right}
 use Rattle.bridge.proofs.Undo.{spared}
 use Rattle.bridge.proofs.TurnLaws.{turns-start, turns-none, turns-past, turns-done, turns-refused}
 use Rattle.bridge.proofs.ValueLaws.{children-values}
+use Rattle.table_keys.specs.Touched.{touches, wholeAt}
 use Rattle.moves.specs.Tally.{TalliedAt}
 use Rattle.change_parts.specs.Turns.{deletesChild, actionImage}
 use Rattle.change_parts.proofs.PartLaws.{cascade-image}
@@ -98,6 +99,18 @@ module _ (rec : Change) (s : Schema) (new : Row) (t : ℕ) (old : Row) where
     keys-refused p = keys-step ∙ rw (← e, p) refl
 
 -- ---- a key's turn
+
+-- a key that does not touch the table, or is broken, has no actions
+pub not-whole-still : (new : Row) (t : ℕ) (old : Row) (k : ForeignKey) → wholeAt t k ≡ false → fires new t old k ≡ false
+unfolding wholeAt touches fires
+not-whole-still new t old k h = go (eqb (k .child) t) (eqb (k .parent) t) (k .broken) h
+  where
+    go : (c p b : Bool) → (c || p) && not b ≡ false → p && (not b && (fullKey (k .parentColumns) old && not (sameParentKey k old new))) ≡ false
+    go c false b e = refl
+    go c true true e = refl
+    go true true false e = absurd (true≢false e)
+    go false true false e = absurd (true≢false e)
+
 module _ (rec : Change) (s : Schema) (new : Row) (t : ℕ) (old : Row) (k : ForeignKey) (w : Work) where
   pub key-off : fires new t old k ≡ false → resultOf Pass w ≡ keyTurn rec s new t old k w
   unfolding keyTurn given resultOf
@@ -106,7 +119,7 @@ module _ (rec : Change) (s : Schema) (new : Row) (t : ℕ) (old : Row) (k : Fore
   module _ (e : fires new t old k ≡ true) where
     pub old-full : fullKey (k .parentColumns) old ≡ true
     unfolding fires
-    old-full = and-left (fullKey (k .parentColumns) old) _ (and-right (eqb (k .parent) t) _ e)
+    old-full = and-left (fullKey (k .parentColumns) old) _ (and-right (not (k .broken)) _ (and-right (eqb (k .parent) t) _ e))
 
     pub key-on : {vs : List ℤ} → vs ≡ keyValues (k .parentColumns) old → childrenByValues rec s new k vs (upFrom 0 (tableOf s (k .child) .rows)) w ≡ keyTurn rec s new t old k w
     unfolding keyTurn given fullKey

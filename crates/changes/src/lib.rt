@@ -13,11 +13,11 @@ ghost use Rattle.bridge.specs.Ready.{resultOf};
 ghost use Rattle.moves.specs.Tally.{Follows, Tallied, TalliedAt};
 ghost use Rattle.rows.specs.Sought.{soughtValues};
 ghost use Rattle.change_parts.specs.Turns.{FollowersOf};
+ghost use Rattle.table_keys.specs.Touched.{WholeKeys};
 use change_parts::Followers;
 use rules::Refusal;
 use rules::Verdict;
 use schema::Action;
-use schema::SchemaAnswer;
 
 // Changes row r of table t to an image, with its actions.
 pub fn row_change(
@@ -35,32 +35,34 @@ pub fn row_change(
     if left == 0 {
         return Verdict::Fail(Refusal::TooDeep);
     }
-    match change_parts::admits(schema, area, t, r, image) {
+    let keys = table_keys::keys_of(schema, t);
+    match change_parts::admits(schema, area, keys.broken, t, r, image) {
         Verdict::Fail(c) => Verdict::Fail(c),
         Verdict::Pass => {
-            let old = tally::write_tallied(schema, area, tally, t, r, image);
-            key_walk(schema, area, tally, t, old, image, left - 1)
+            let old = tally::write_tallied(schema, area, tally, keys.whole, t, r, image);
+            key_walk(schema, area, tally, keys.whole, t, old, image, left - 1)
         }
     }
 }
 
-// The actions of all foreign keys, by number.
+// The actions of all foreign keys, by number. `whole` has those that touch the table and are not broken.
 fn key_walk(
     schema: &[u8],
     area: &mut [i64],
     tally: &mut [i64; 32],
+    whole: usize,
     t: usize,
     old: [i64; 9],
     new: [i64; 9],
     left: usize,
 ) -> Verdict
-    requires { ⌜ Tallied (now schema) (now tally) (now area) ⌝ }
+    requires { ⌜ Tallied (now schema) (now tally) (now area) × WholeKeys (now schema) t whole ⌝ }
     ensures { λ o. ⌜ (resultOf o (workOf (schemaOf (now (schema .entry))) (now (area .exit))) ≡ Change.actions (Change.change left (schemaOf (now (schema .entry)))) (schemaOf (now (schema .entry))) new t old (schemaOf (now (schema .entry)) .keys) (workOf (schemaOf (now (schema .entry))) (now (area .entry)))) × Follows (schemaOf (now (schema .entry))) (now (tally .entry)) (now (area .entry)) (now (tally .exit)) (now (area .exit)) ⌝ }
 {
     let n = fields::key_count(schema);
     let mut k = 0;
     while k < n {
-        match key_turn(schema, area, tally, t, old, new, k, left) {
+        match key_turn(schema, area, tally, whole, t, old, new, k, left) {
             Verdict::Pass => {}
             Verdict::Fail(c) => {
                 return Verdict::Fail(c);
@@ -76,15 +78,19 @@ fn key_turn(
     schema: &[u8],
     area: &mut [i64],
     tally: &mut [i64; 32],
+    whole: usize,
     t: usize,
     old: [i64; 9],
     new: [i64; 9],
     k: usize,
     left: usize,
 ) -> Verdict
-    requires { ⌜ Tallied (now schema) (now tally) (now area) × (k < length (schemaOf (now schema) .keys)) ⌝ }
+    requires { ⌜ Tallied (now schema) (now tally) (now area) × (WholeKeys (now schema) t whole × (k < length (schemaOf (now schema) .keys))) ⌝ }
     ensures { λ o. ⌜ (resultOf o (workOf (schemaOf (now (schema .entry))) (now (area .exit))) ≡ Change.keyTurn (Change.change left (schemaOf (now (schema .entry)))) (schemaOf (now (schema .entry))) new t old (keyOf (schemaOf (now (schema .entry))) k) (workOf (schemaOf (now (schema .entry))) (now (area .entry)))) × Follows (schemaOf (now (schema .entry))) (now (tally .entry)) (now (area .entry)) (now (tally .exit)) (now (area .exit)) ⌝ }
 {
+    if !numbers::bit_of(k, whole) {
+        return Verdict::Pass;
+    }
     if !rows::fires(schema, t, old, new, k) {
         return Verdict::Pass;
     }

@@ -12,9 +12,9 @@ use Rattle.schema.specs.Records.{ForeignKey}
 use Rattle.schema.proofs.FieldLaws.{read-width}
 use Rattle.rules.specs.Lists.{any}
 use Rattle.rules.specs.Rows.{Row, live}
-use Rattle.rules.specs.Keys.{fullKey, mapsTo, halfDue, due, serves, orphan}
+use Rattle.rules.specs.Keys.{fullKey, mapsTo, halfDue, serves, orphan}
 use Rattle.bridge.proofs.KeyLaws.{key-sym}
-use Rattle.bridge.proofs.NullKeys.{half-orphan}
+use Rattle.bridge.proofs.NullKeys.{whole-due, half-orphan}
 use Rattle.rows.specs.KeyColumns.{KeyColumns}
 use Rattle.rows.specs.Sought.{withKey}
 
@@ -35,14 +35,14 @@ module _ (k : ForeignKey) {cs : List ℕ} (e : cs ≡ k .childColumns) (x : Row)
     pub any-serving : {ys zs : List Row} → ys ≡ zs → any (withKey ps cs x) ys ≡ any (serves k x) zs
     any-serving {ys} {zs} g = (λ i. any (λ y. with-key-serves y i) ys) ∙ ap (any (serves k x)) g
 
-  -- a row with no NULL in its key is an orphan if nobody serves it; any other if it is half filled and the match is full
-  module _ (ys : List Row) {full : Bool} (h : full ≡ fullKey cs x) where
+  -- of a key that is not broken, a row with no NULL in its key is an orphan if nobody serves it; any other if it is half filled and the match is full
+  module _ (whole : k .broken ≡ false) (ys : List Row) {full : Bool} (h : full ≡ fullKey cs x) where
     full-is : fullKey (k .childColumns) x ≡ full
     full-is = sym (h ∙ ap (λ (ds : List ℕ). fullKey ds x) e)
 
     pub orphan-half : length (k .childColumns) ≡ length (k .parentColumns) → not full ≡ true → {half : Bool} → half ≡ halfDue (k .match) cs x → half ≡ orphan k ys x
-    orphan-half same t g = g ∙ ap (λ (ds : List ℕ). halfDue (k .match) ds x) e ∙ sym (half-orphan k same x ys (full-is ∙ not-true _ t))
+    orphan-half same t g = g ∙ ap (λ (ds : List ℕ). halfDue (k .match) ds x) e ∙ sym (half-orphan k same x whole ys (full-is ∙ not-true _ t))
 
     pub orphan-full : {served : Bool} → served ≡ any (serves k x) ys → not full ≡ false → not served ≡ orphan k ys x
-    unfolding orphan due
-    orphan-full g t = rw (full-is ∙ not-false _ t) (ap not g)
+    unfolding orphan
+    orphan-full g t = rw (whole-due k whole x, full-is ∙ not-false _ t) (ap not g)

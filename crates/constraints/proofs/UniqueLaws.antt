@@ -16,7 +16,7 @@ use Rattle.schema.specs.Bytes.{bit}
 use Rattle.rules.specs.Rows.{Row, live}
 use Rattle.rules.specs.Keys.{sameKey, maskColumns, maskColumnsFrom}
 use Rattle.rules.specs.Change.{twice}
-use Rattle.rows.proofs.LoopLaws.{up-length, up-get}
+use Rattle.bridge.proofs.LoopLaws.{up-length, up-get}
 use Rattle.moves.specs.Movement.{except}
 use Rattle.rows.specs.Sought.{withKey}
 

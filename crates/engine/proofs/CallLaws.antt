@@ -8,13 +8,13 @@ use borrow.Author.Tests.{eq-eqb, ne-eqb}
 use lib.IntN.{ℤ}
 use lib.ListN.{length}
 use Rattle.schema.specs.declared.SchemaAnswer.{SchemaAnswer}
-use Rattle.schema.specs.declared.SchemaAnswer.the-variants.{Accepted, Malformed, Unmatched}
+use Rattle.schema.specs.declared.SchemaAnswer.the-variants.{Accepted, Malformed}
 use Rattle.schema.specs.Records.{Schema}
 use Rattle.schema.specs.Sizes.{areaSize}
 use Rattle.schema.specs.Fields.{schemaOf}
 use Rattle.schema.specs.Check.{checkSchema}
 use Rattle.rules.specs.declared.Answer.the-variants.{Refused}
-use Rattle.rules.specs.declared.Refusal.the-variants.{SchemaMalformed, SchemaUnmatched, WrongLength, BadCall, Damaged}
+use Rattle.rules.specs.declared.Refusal.the-variants.{SchemaMalformed, WrongLength, BadCall, Damaged}
 use Rattle.rules.specs.State.{undamaged}
 use Rattle.rules.specs.Calls.{Call, parse, allowed}
 use Rattle.rules.specs.Statement.{check}
@@ -35,15 +35,11 @@ use Rattle.call_form.specs.Requests.{callOf, judged}
 use Rattle.call_form.proofs.Requested.{isCall, Read, read-is, refused-is}
 use Rattle.engine.specs.Calls.{isRefused, callWords}
 
--- ---- refusals 1 and 2
+-- ---- refusal 1
 module _ (b : List ℕ) (a : List ℤ) (x : SchemaAnswer) (e : x ≡ checkSchema b) (c : List ℤ) where
   pub call-malformed : x ≡ Malformed → (Refused SchemaMalformed, a) ≡ callOn b c a
   unfolding callOn underSchema
   call-malformed m = rw (← e, m) refl
-
-  pub call-unmatched : x ≡ Unmatched → (Refused SchemaUnmatched, a) ≡ callOn b c a
-  unfolding callOn underSchema
-  call-unmatched m = rw (← e, m) refl
 
   pub call-under : x ≡ Accepted → areaStep (schemaOf b) c a ≡ callOn b c a
   unfolding callOn underSchema

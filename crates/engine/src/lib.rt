@@ -71,7 +71,6 @@ pub fn call(schema: &[u8], area: &mut [i64], call: &[i64]) -> Answer
 {
     match schema_check::check_schema(schema) {
         SchemaAnswer::Malformed => Answer::Refused(Refusal::SchemaMalformed),
-        SchemaAnswer::Unmatched => Answer::Refused(Refusal::SchemaUnmatched),
         SchemaAnswer::Accepted => call_area(schema, area, call),
     }
 }

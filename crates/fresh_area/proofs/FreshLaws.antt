@@ -10,14 +10,14 @@ use lib.Dec.{eqb}
 use lib.IntN.{ℤ, pos}
 use lib.ListN.{length, take, replicate}
 use Rattle.schema.specs.declared.SchemaAnswer.{SchemaAnswer}
-use Rattle.schema.specs.declared.SchemaAnswer.the-variants.{Accepted, Malformed, Unmatched}
+use Rattle.schema.specs.declared.SchemaAnswer.the-variants.{Accepted, Malformed}
 use Rattle.schema.specs.Records.{Schema}
 use Rattle.schema.specs.Sizes.{areaSize}
 use Rattle.schema.specs.Fields.{schemaOf}
 use Rattle.schema.specs.Check.{checkSchema}
 use Rattle.rules.specs.declared.Answer.the-variants.{Done, Refused}
 use Rattle.rules.specs.declared.Refusal.{Refusal}
-use Rattle.rules.specs.declared.Refusal.the-variants.{SchemaMalformed, SchemaUnmatched, WrongLength}
+use Rattle.rules.specs.declared.Refusal.the-variants.{SchemaMalformed, WrongLength}
 use Rattle.rules.specs.Lists.{𝟘}
 use Rattle.rules.specs.Area.{AreaTurn, ensure, freshWords}
 use Rattle.rules.specs.Engine.{underSchema, makeFresh}
@@ -27,15 +27,11 @@ use Rattle.rules.specs.Refusals.{accepted}
 use Rattle.rules.specs.declared.Answer.{Answer}
 use Rattle.fresh_area.specs.Fresh.{freshArea, wordsUnder, areaWords}
 
--- ---- refusals 1 and 2
+-- ---- refusal 1
 module _ (b : List ℕ) (a : List ℤ) (x : SchemaAnswer) (e : x ≡ checkSchema b) where
   pub fresh-malformed : x ≡ Malformed → (Refused SchemaMalformed, a) ≡ makeFresh b a
   unfolding makeFresh underSchema
   fresh-malformed m = rw (← e, m) refl
-
-  pub fresh-unmatched : x ≡ Unmatched → (Refused SchemaUnmatched, a) ≡ makeFresh b a
-  unfolding makeFresh underSchema
-  fresh-unmatched m = rw (← e, m) refl
 
   pub fresh-under : x ≡ Accepted → freshArea (schemaOf b) a ≡ makeFresh b a
   unfolding makeFresh underSchema freshArea
@@ -71,7 +67,6 @@ module _ (b : List ℕ) (a : List ℤ) {x : Answer} {a′ : List ℤ} (e : (x, a
 
       by : (k : SchemaAnswer) → checkSchema b ≡ k → Reached b a′
       by Malformed m = absurd (not-refused (sym (fresh-malformed b a Malformed (sym m) refl)))
-      by Unmatched m = absurd (not-refused (sym (fresh-unmatched b a Unmatched (sym m) refl)))
       by Accepted m = sized m (eqb (length a) (areaSize (schemaOf b))) refl
 
 -- ---- the length of an area
@@ -83,7 +78,3 @@ words-accepted bs e h = rw e h
 pub words-malformed : (bs : List ℕ) → checkSchema bs ≡ Malformed → 0 ≡ areaWords bs
 unfolding areaWords wordsUnder
 words-malformed bs e = rw e refl
-
-pub words-unmatched : (bs : List ℕ) → checkSchema bs ≡ Unmatched → 0 ≡ areaWords bs
-unfolding areaWords wordsUnder
-words-unmatched bs e = rw e refl

@@ -10,8 +10,7 @@ use Rattle.schema.specs.Sizes.{areaSize}
 use Rattle.schema.specs.Fields.{schemaOf}
 use Rattle.schema.specs.Check.{checkSchema}
 use Rattle.schema.specs.declared.SchemaAnswer.{SchemaAnswer}
-use Rattle.schema.specs.declared.SchemaAnswer.the-variants.{Accepted, Unmatched}
-use Rattle.schema.specs.declared.SchemaAnswer.the-variants.{Malformed}
+use Rattle.schema.specs.declared.SchemaAnswer.the-variants.{Accepted, Malformed}
 use Rattle.rules.specs.declared.Answer.the-variants.{Done}
 use Rattle.rules.specs.declared.Refusal.the-variants.{WrongLength}
 use Rattle.rules.specs.Lists.{𝟘}
@@ -25,7 +24,6 @@ freshArea s ws = ensure (eqb (length ws) (areaSize s)) WrongLength (λ ws. (Done
 unfoldable pub wordsUnder : SchemaAnswer → Schema → ℕ
 wordsUnder Accepted s = areaSize s
 wordsUnder Malformed s = 0
-wordsUnder Unmatched s = 0
 
 unfoldable pub areaWords : List ℕ → ℕ
 areaWords bs = wordsUnder (checkSchema bs) (schemaOf bs)

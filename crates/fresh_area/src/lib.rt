@@ -27,18 +27,16 @@ pub fn area_words(schema: &[u8]) -> usize
 {
     match schema_check::check_schema(schema) {
         SchemaAnswer::Malformed => 0,
-        SchemaAnswer::Unmatched => 0,
         SchemaAnswer::Accepted => fields::area_length(schema),
     }
 }
 
-// Makes an area fresh: refused by 1, 2 and 3 only.
+// Makes an area fresh: refused by 1 and 3 only.
 pub fn make_fresh(schema: &[u8], area: &mut [i64]) -> Answer
     ensures { λ x. ⌜ (x, now (area .exit)) ≡ makeFresh (now (schema .entry)) (now (area .entry)) ⌝ }
 {
     match schema_check::check_schema(schema) {
         SchemaAnswer::Malformed => Answer::Refused(Refusal::SchemaMalformed),
-        SchemaAnswer::Unmatched => Answer::Refused(Refusal::SchemaUnmatched),
         SchemaAnswer::Accepted => clear_area(schema, area),
     }
 }

@@ -2,9 +2,8 @@
 -- Assumes nothing.
 use mathlib.Core.Path.{_≡_, refl, sym}
 use mathlib.Core.Bool.{Bool, true, false, false≢true}
-use Prim.Native.Nat.{ℕ, _+_, _*_, _-_, _/_, _%_, _^_, _≤_}
+use Prim.Native.Nat.{ℕ, _+_, _-_, _/_, _^_, _≤_}
 use native.Mathlib.Nat.{div-eq-of-lt}
-use native.Mathlib.Omega.{arith}
 use borrow.Author.Tests.{leb-false, leb-true}
 use lib.Dec.{leb}
 use lib.Pow.{pow-pos, pow-mono}
@@ -12,14 +11,8 @@ use Rattle.schema.specs.Bounds.{Within}
 use Rattle.schema.specs.Bytes.{bit}
 use Rattle.rules.specs.Change.{flag}
 
-power-within : (c : ℕ) → c ≤ 8 → Within 1 256 (2 ^ c)
-power-within c h = record { low = pow-pos c; high = pow-mono {j = 8} h }
-
-pub power-is : (c : ℕ) → c ≤ 8 → (1 * 2 ^ c % 2 ^ 64 ≡ 2 ^ c) × Within 1 256 (1 * 2 ^ c % 2 ^ 64)
-power-is c h =
-    let w : Within 1 256 (2 ^ c) = power-within c h in
-    let e : 1 * 2 ^ c % 2 ^ 64 ≡ 2 ^ c = omega arith in
-    (e, rw e w)
+pub power-within : {x : ℕ} (c : ℕ) → c ≤ 8 → x ≡ 2 ^ c → Within 1 256 x
+power-within c h e = rw e (record { low = pow-pos c; high = pow-mono {j = 8} h })
 
 -- a mask that has bit c is at least its power
 pub bit-le : (c m : ℕ) → bit c m ≡ true → 2 ^ c ≤ m

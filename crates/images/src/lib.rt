@@ -2,10 +2,10 @@
 ghost use mathlib.Core.Path.{_≡_};
 ghost use mathlib.Core.Bool.{true, false};
 ghost use mathlib.Core.List.{[], _∷_};
-ghost use Prim.Native.Nat.{_+_, _%_, _^_, _≤_, _<_};
+ghost use Prim.Native.Nat.{_+_, _%_, _≤_, _<_};
 ghost use lib.IntN.{pos};
 ghost use lib.ListN.{length, getD, take, drop};
-ghost use Rattle.schema.specs.Bounds.{Within, Columns};
+ghost use Rattle.schema.specs.Bounds.{Columns};
 ghost use Rattle.schema.specs.Records.{tableOf, keyOf};
 ghost use Rattle.schema.specs.Fields.{schemaOf};
 ghost use Rattle.schema.specs.Check.{checkSchema};
@@ -18,14 +18,6 @@ use schema::Action;
 use schema::SchemaAnswer;
 
 // ---- a live row's image
-
-// 2 to the power c.
-fn power(c: usize) -> usize
-    requires { ⌜ c ≤ 8 ⌝ }
-    ensures { λ x. ⌜ (x ≡ 2 ^ c) × Within 1 256 x ⌝ }
-{
-    1 << c
-}
 
 // Column i's value as a written row holds it: 0 where the mask says NULL.
 fn held(i: usize, m: usize, v: i64) -> i64
@@ -44,7 +36,7 @@ fn live_row(columns: usize, m: usize, image: [i64; 9]) -> [i64; 9]
     ensures { λ x. ⌜ x ≡ Rows.liveImage columns m (drop 1 image) ⌝ }
 {
     let mut x = image;
-    x[0] = words::word_of(256 + m % power(columns));
+    x[0] = words::word_of(256 + m % numbers::power(columns));
     let mut i = 0;
     while i < 8 {
         let v = x[i + 1];
@@ -80,7 +72,7 @@ fn flag(c: usize, null: bool, m: usize) -> usize
     requires { ⌜ (c < 8) × (m < 256) ⌝ }
     ensures { λ x. ⌜ (x ≡ Change.flag c null m) × (x ≤ 512) ⌝ }
 {
-    let p = power(c);
+    let p = numbers::power(c);
     if null {
         if numbers::bit_of(c, m) {
             return m;

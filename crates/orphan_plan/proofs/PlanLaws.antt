@@ -10,13 +10,13 @@ use borrow.Author.Tests.{eq-eqb, ne-eqb, lt-ltb, le-ltb}
 use lib.IntN.{ℤ}
 use lib.ListN.{length, getD, drop, drop-of-length-le}
 use lib.Seq.{drop-cons}
-use Rattle.schema.specs.declared.SchemaAnswer.the-variants.{Accepted, Malformed, Unmatched}
+use Rattle.schema.specs.declared.SchemaAnswer.the-variants.{Accepted, Malformed}
 use Rattle.schema.specs.Records.{ForeignKey, noKey}
 use Rattle.schema.specs.Fields.{schemaOf}
 use Rattle.schema.specs.Check.{checkSchema}
 use Rattle.schema.specs.Sizes.{areaSize}
 use Rattle.rules.specs.declared.Refusal.{Refusal}
-use Rattle.rules.specs.declared.Refusal.the-variants.{SchemaMalformed, SchemaUnmatched, WrongLength, Damaged, ListTooShort}
+use Rattle.rules.specs.declared.Refusal.the-variants.{SchemaMalformed, WrongLength, Damaged, ListTooShort}
 use Rattle.rules.specs.declared.Verdict.the-variants.{Pass, Fail}
 use Rattle.rules.specs.declared.Listed.{Listed}
 use Rattle.rules.specs.Lists.{𝟘}
@@ -65,10 +65,6 @@ module _ (bs : List ℕ) (ws : List ℤ) (room : ℕ) where
     pub malformed : x .answer ≡ refusedBy SchemaMalformed → checkSchema bs ≡ Malformed → Planned bs ws room x
     unfolding listVerdict schemaVerdict
     malformed e h = refused-by SchemaMalformed e (rw h refl)
-
-    pub unmatched : x .answer ≡ refusedBy SchemaUnmatched → checkSchema bs ≡ Unmatched → Planned bs ws room x
-    unfolding listVerdict schemaVerdict
-    unmatched e h = refused-by SchemaUnmatched e (rw h refl)
 
     module _ (acc : checkSchema bs ≡ Accepted) where
       pub wrong-length : x .answer ≡ refusedBy WrongLength → (length ws ≡ areaSize (schemaOf bs) → ⊥) → Planned bs ws room x

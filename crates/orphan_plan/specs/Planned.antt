@@ -12,7 +12,7 @@ use Rattle.rules.specs.Refusals.{number}
 use Rattle.rules.specs.OrphanList.{orphanList, listAnswer}
 use Rattle.bridge.specs.Fit.{workOf}
 use Rattle.bridge.specs.Ready.{Ready}
-use Rattle.orphans.specs.KeyRows.{KeyRowsOf}
+use Rattle.orphans.specs.KeyRows.{Searched}
 use Rattle.orphan_scan.specs.declared.Cursor.{Cursor}
 use Rattle.orphan_scan.specs.Scan.{orphansAt}
 use Rattle.orphan_plan.specs.declared.Plan.{Plan}
@@ -20,7 +20,7 @@ use Rattle.orphan_plan.specs.declared.Plan.{Plan}
 -- the cursor x stands before the orphans l
 pub record Stands (bs : List ℕ) (ws : List ℤ) (l : List Orphan) (x : Cursor) : Type 0 where
   pub ready : Ready bs ws
-  pub key-is : KeyRowsOf bs (x .orphan .key) (x .key)
+  pub key-is : Searched bs (x .orphan .key) (x .key)
   pub left : l ≡ orphansAt bs ws x
 
 -- the plan of a list: the answer; where it has orphans, they fit in the lent list, and the cursor stands before all of them

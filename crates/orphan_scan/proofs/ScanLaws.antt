@@ -11,20 +11,26 @@ use lib.Dec.{ltb}
 use lib.IntN.{ℤ}
 use lib.ListN.{length, getD, drop, drop-of-length-le}
 use lib.Seq.{drop-cons}
-use Rattle.schema.specs.Records.{noKey}
+use Rattle.schema.specs.Records.{noKey, keyOf}
 use Rattle.schema.specs.Fields.{schemaOf}
 use Rattle.rules.specs.declared.Orphan.{Orphan}
 use Rattle.rules.specs.Rows.{Row}
 use Rattle.rules.specs.OrphanList.{recordIf, orphanRows, orphansFrom, orphanList}
 use Rattle.bridge.specs.Fit.{workOf}
 use Rattle.bridge.specs.Ready.{Ready}
+use Rattle.bridge.proofs.BrokenKeys.{broken-orphan}
 use Rattle.orphans.specs.declared.KeyRows.{KeyRows}
-use Rattle.orphans.specs.KeyRows.{KeyRowsOf}
-use Rattle.orphans.proofs.OrphanLaws.{childRows, childAt, isAlone, child-is, children-many}
+use Rattle.orphans.specs.KeyRows.{Searched}
+use Rattle.orphans.proofs.OrphanLaws.{childRows, childAt, isAlone, child-is, children-many, row-whole}
 use Rattle.orphan_scan.specs.Scan.{orphansFromKey, orphansLeft, orphansAt, Starts}
 use Rattle.orphan_scan.specs.declared.Cursor.{Cursor}
 
 -- ---- the orphans of one foreign key, from row j on
+rows-never : (p : Row → Bool) (k : ℕ) → ((c : Row) → p c ≡ false) → (j : ℕ) (xs : List Row) → orphanRows p k j xs ≡ []
+unfolding orphanRows recordIf
+rows-never p k e j [] = refl
+rows-never p k e j (x ∷ xs) = rw (e x) (rows-never p k e (suc j) xs)
+
 module _ (p : Row → Bool) (k : ℕ) (xs : List Row) (j : ℕ) where
   rows-none : length xs ≤ j → orphanRows p k j (drop j xs) ≡ []
   unfolding orphanRows
@@ -58,11 +64,11 @@ module _ (b : List ℕ) (a : List ℤ) where
   unfolding orphanList orphansFromKey
   all-left {x} h l = from-key 0 l ∙ rw (h .first-key, h .first-row) refl
 
-  module _ (h : Ready b a) {k : ℕ} {key : KeyRows} (e : KeyRowsOf b k key) (j : ℕ) where
+  module _ (h : Ready b a) {k : ℕ} {key : KeyRows} (e : Searched b k key) (j : ℕ) where
     -- row j is an orphan, or it is none
     module _ (l : j < key .children .count) {z : Bool} (i : z ≡ isAlone b a k (childAt b a k j)) where
       in-rows : j < length (childRows b a k)
-      in-rows = omega (arith, l, children-many b a k h key e)
+      in-rows = omega (arith, l, children-many b a k h key (row-whole b a k key e j l))
 
       pub left-hit : z ≡ true → orphansLeft b a k j ≡ record { key = k; row = j } ∷ orphansLeft b a k (j + 1)
       unfolding orphansLeft
@@ -76,7 +82,14 @@ module _ (b : List ℕ) (a : List ℤ) where
     module _ (l : key .children .count ≤ j) where
       left-none : orphansLeft b a k j ≡ orphansFromKey b a (suc k)
       unfolding orphansLeft
-      left-none = ap (λ (os : List Orphan). os ++ orphansFromKey b a (suc k)) (rows-none (isAlone b a k) k (childRows b a k) j (omega (arith, l, children-many b a k h key e)))
+      left-none = ap (λ (os : List Orphan). os ++ orphansFromKey b a (suc k)) rows-left
+        where
+          rows-left : orphanRows (isAlone b a k) k j (drop j (childRows b a k)) ≡ []
+          rows-left = go (keyOf (schemaOf b) k .broken) refl
+            where
+              go : (u : Bool) → keyOf (schemaOf b) k .broken ≡ u → orphanRows (isAlone b a k) k j (drop j (childRows b a k)) ≡ []
+              go false u = rows-none (isAlone b a k) k (childRows b a k) j (omega (arith, l, children-many b a k h key (e .whole u)))
+              go true u = rows-never (isAlone b a k) k (broken-orphan (keyOf (schemaOf b) k) u (getD (workOf (schemaOf b) a .tabs) (keyOf (schemaOf b) k .parent) [])) j (drop j (childRows b a k))
 
       -- where an orphan is left, there is another foreign key
       pub key-more : {os : List Orphan} → os ≡ orphansLeft b a k j → 0 < length os → k + 1 < length (schemaOf b .keys)

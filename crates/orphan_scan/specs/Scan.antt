@@ -13,7 +13,7 @@ use Rattle.rules.specs.OrphanList.{orphanRows, orphansFrom}
 use Rattle.bridge.specs.Fit.{workOf}
 use Rattle.bridge.specs.Ready.{Ready}
 use Rattle.orphans.specs.declared.KeyRows.{KeyRows}
-use Rattle.orphans.specs.KeyRows.{KeyRowsOf}
+use Rattle.orphans.specs.KeyRows.{Searched}
 use Rattle.orphan_scan.specs.declared.Cursor.{Cursor}
 
 module _ (b : List ℕ) (a : List ℤ) where
@@ -39,16 +39,16 @@ module _ (b : List ℕ) (a : List ℤ) where
   -- an orphan is left for the cursor x
   pub record Unfinished (x : Cursor) : Type 0 where
     pub ready : Ready b a
-    pub key-is : KeyRowsOf b (x .orphan .key) (x .key)
+    pub key-is : Searched b (x .orphan .key) (x .key)
     pub some : 0 < length (orphansAt x)
 
   -- the cursor x stands behind the first orphan that y stands before
   pub record Next (y x : Cursor) : Type 0 where
     pub heads : orphansAt y ≡ x .orphan ∷ orphansAt x
-    pub key-is : KeyRowsOf b (x .orphan .key) (x .key)
+    pub key-is : Searched b (x .orphan .key) (x .key)
 
 -- the cursor x stands before row 0 of foreign key 0
 pub record Starts (b : List ℕ) (x : Cursor) : Type 0 where
   pub first-key : x .orphan .key ≡ 0
   pub first-row : x .from ≡ 0
-  pub key-is : KeyRowsOf b (x .orphan .key) (x .key)
+  pub key-is : Searched b (x .orphan .key) (x .key)

@@ -5,10 +5,9 @@ ghost use lib.ListN.{length};
 ghost use Rattle.schema.specs.Fields.{schemaOf};
 ghost use Rattle.schema.specs.Check.{checkSchema};
 ghost use Rattle.bridge.specs.Ready.{Ready};
-ghost use Rattle.orphans.specs.KeyRows.{KeyRowsOf};
+ghost use Rattle.orphans.specs.KeyRows.{Searched};
 ghost use Rattle.orphan_scan.specs.Scan.{FirstRow, Starts, Unfinished, Next};
 use orphans::KeyRows;
-use rows::TableRows;
 use rules::Orphan;
 use schema::SchemaAnswer;
 
@@ -21,22 +20,10 @@ pub struct Cursor {
 
 // A cursor that stands nowhere: there is nothing to find.
 pub fn nowhere() -> Cursor {
-    let none = TableRows {
-        start: 0,
-        width: 0,
-        count: 0,
-    };
-    let columns = [0usize; 8];
     Cursor {
         orphan: Orphan { key: 0, row: 0 },
         from: 0,
-        key: KeyRows {
-            children: none,
-            parents: none,
-            n: 0,
-            cs: columns,
-            ps: columns,
-        },
+        key: orphans::no_rows(),
     }
 }
 
@@ -48,7 +35,7 @@ pub fn start(schema: &[u8]) -> Cursor
     if fields::key_count(schema) == 0 {
         return nowhere();
     }
-    let key = orphans::key_rows(schema, 0);
+    let key = orphans::searched_rows(schema, 0);
     Cursor {
         orphan: Orphan { key: 0, row: 0 },
         from: 0,
@@ -58,7 +45,7 @@ pub fn start(schema: &[u8]) -> Cursor
 
 // The first orphan of foreign key k from row `from` on; a number past the child rows where there is none.
 fn next_row(schema: &[u8], area: &[i64], k: usize, key: KeyRows, from: usize) -> usize
-    requires { ⌜ Ready (now schema) (now area) × KeyRowsOf (now schema) k key ⌝ }
+    requires { ⌜ Ready (now schema) (now area) × Searched (now schema) k key ⌝ }
     ensures { λ x. ⌜ FirstRow (now (schema .entry)) (now (area .entry)) k key from x ⌝ }
 {
     let rows = key.children.count;
@@ -82,7 +69,7 @@ pub fn next_orphan(schema: &[u8], area: &[i64], at: Cursor) -> Cursor
     let mut j = next_row(schema, area, k, key, at.from);
     while key.children.count <= j {
         k += 1;
-        key = orphans::key_rows(schema, k);
+        key = orphans::searched_rows(schema, k);
         j = next_row(schema, area, k, key, 0);
     }
     Cursor {

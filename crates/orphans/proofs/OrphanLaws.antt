@@ -1,7 +1,7 @@
 -- The child rows of a foreign key, as they stand in the area and as they are judged.
 -- Assumes nothing.
 use mathlib.Core.Path.{_≡_, refl, sym, ap, _∙_}
-use mathlib.Core.Bool.{Bool}
+use mathlib.Core.Bool.{Bool, true, false}
 use mathlib.Core.List.{List, []}
 use Prim.Native.Nat.{ℕ, _+_, _*_, _≤_, _<_}
 use native.Mathlib.Omega.{arith}
@@ -15,12 +15,14 @@ use Rattle.rules.specs.Keys.{orphan, orphans}
 use Rattle.bridge.specs.Fit.{workOf}
 use Rattle.bridge.specs.Ready.{Ready, rowIn}
 use Rattle.bridge.proofs.KeyLaws.{orphan-same, get-padded}
+use Rattle.bridge.proofs.BrokenKeys.{broken-orphan}
+use Rattle.bridge.proofs.CountLaws as all
 use Rattle.bridge.proofs.RowWords.{formed-fit, rows-length}
 use Rattle.rows.specs.Standing.{RowAt, PlacedAt}
-use Rattle.rows.proofs.LoopLaws.{count-none, count-more}
+use Rattle.bridge.proofs.LoopLaws.{count-none, count-more}
 use Rattle.rows.proofs.TableLaws.{child-table, rows-few, placed-at, row-in, row-stands}
 use Rattle.orphans.specs.declared.KeyRows.{KeyRows}
-use Rattle.orphans.specs.KeyRows.{KeyRowsOf}
+use Rattle.orphans.specs.KeyRows.{KeyRowsOf, Searched}
 
 -- an image is the row with zeros after it
 image-same : (k : ForeignKey) (ys : List Row) (a : List ℤ) (p w : ℕ) {x : Row} → x ≡ padded 9 (take w (drop p a)) → orphan k ys x ≡ orphan k ys (rowIn a p w)
@@ -84,3 +86,29 @@ module _ (b : List ℕ) (a : List ℤ) (k : ℕ) where
 
       pub child-judged : {z : Bool} {y : Row} → z ≡ isAlone y → y ≡ padded 9 (take (x .children .width) (drop place a)) → z ≡ isAlone (childAt j)
       child-judged f i = f ∙ image-same _ _ a place (x .children .width) i ∙ ap isAlone (row-in b a childTable j place (x .children .width) child-placed)
+
+  -- ---- what is searched
+
+  module _ (x : KeyRows) (e : Searched b k x) where
+    -- a key with a row to search is not broken
+    pub row-whole : (j : ℕ) → j < x .children .count → KeyRowsOf b k x
+    row-whole j l = go (keyOf (schemaOf b) k .broken) refl
+      where
+        go : (u : Bool) → keyOf (schemaOf b) k .broken ≡ u → KeyRowsOf b k x
+        go false u = e .whole u
+        go true u = absurd (omega (arith, e .none u))
+
+    pub searched-few : Ready b a → x .children .count ≤ 1024
+    searched-few h = go (keyOf (schemaOf b) k .broken) refl
+      where
+        go : (u : Bool) → keyOf (schemaOf b) k .broken ≡ u → x .children .count ≤ 1024
+        go false u = children-few h x (e .whole u)
+        go true u = omega (arith, e .none u)
+
+    -- past the last row there is no orphan
+    pub searched-none : Ready b a → (j : ℕ) → x .children .count ≤ j → count isAlone (drop j childRows) ≡ 0
+    searched-none h j l = go (keyOf (schemaOf b) k .broken) refl
+      where
+        go : (u : Bool) → keyOf (schemaOf b) k .broken ≡ u → count isAlone (drop j childRows) ≡ 0
+        go false u = none-left h x (e .whole u) j l
+        go true u = all.count-none isAlone (broken-orphan (keyOf (schemaOf b) k) u (getD (workOf (schemaOf b) a .tabs) (keyOf (schemaOf b) k .parent) [])) (drop j childRows)

@@ -1,5 +1,6 @@
 // The orphans of a foreign key, found among its child rows.
 ghost use mathlib.Core.Path.{_≡_};
+ghost use mathlib.Core.Bool.{false};
 ghost use mathlib.Core.List.{[]};
 ghost use Prim.Native.Nat.{_≤_, _<_};
 ghost use lib.ListN.{length, getD};
@@ -10,7 +11,7 @@ ghost use Rattle.rules.specs.Rows;
 ghost use Rattle.rules.specs.Keys;
 ghost use Rattle.bridge.specs.Fit.{workOf};
 ghost use Rattle.bridge.specs.Ready.{Ready};
-ghost use Rattle.orphans.specs.KeyRows.{KeyRowsOf};
+ghost use Rattle.orphans.specs.KeyRows.{KeyRowsOf, Searched};
 use rows::TableRows;
 use schema::SchemaAnswer;
 
@@ -23,9 +24,28 @@ pub struct KeyRows {
     pub ps: [usize; 8],
 }
 
-// The rows and the columns of foreign key k.
-pub fn key_rows(schema: &[u8], k: usize) -> KeyRows
-    requires { ⌜ (checkSchema (now schema) ≡ SchemaAnswer.Accepted) × (k < length (schemaOf (now schema) .keys)) ⌝ }
+// No rows and no columns.
+pub fn no_rows() -> KeyRows
+    ensures { λ x. ⌜ x .children .count ≡ 0 ⌝ }
+{
+    let none = TableRows {
+        start: 0,
+        width: 0,
+        count: 0,
+    };
+    let columns = [0usize; 8];
+    KeyRows {
+        children: none,
+        parents: none,
+        n: 0,
+        cs: columns,
+        ps: columns,
+    }
+}
+
+// The rows and the columns of foreign key k, which is not broken.
+fn key_rows(schema: &[u8], k: usize) -> KeyRows
+    requires { ⌜ (checkSchema (now schema) ≡ SchemaAnswer.Accepted) × ((k < length (schemaOf (now schema) .keys)) × (keyOf (schemaOf (now schema)) k .broken ≡ false)) ⌝ }
     ensures { λ x. ⌜ KeyRowsOf (now (schema .entry)) k x ⌝ }
 {
     let children = rows::rows_of(schema, fields::child(schema, k));
@@ -40,6 +60,17 @@ pub fn key_rows(schema: &[u8], k: usize) -> KeyRows
         cs: cs,
         ps: ps,
     }
+}
+
+// What is searched for orphans of foreign key k: its rows and columns; no rows where it is broken.
+pub fn searched_rows(schema: &[u8], k: usize) -> KeyRows
+    requires { ⌜ (checkSchema (now schema) ≡ SchemaAnswer.Accepted) × (k < length (schemaOf (now schema) .keys)) ⌝ }
+    ensures { λ x. ⌜ Searched (now (schema .entry)) k x ⌝ }
+{
+    if fields::is_broken(schema, k) {
+        return no_rows();
+    }
+    key_rows(schema, k)
 }
 
 // Whether row j of foreign key k's child table is an orphan.
@@ -61,7 +92,7 @@ pub fn count_orphans(schema: &[u8], area: &[i64], k: usize) -> usize
     requires { ⌜ Ready (now schema) (now area) × (k < length (schemaOf (now schema) .keys)) ⌝ }
     ensures { λ x. ⌜ (x ≡ Keys.orphans (workOf (schemaOf (now (schema .entry))) (now (area .entry)) .tabs) (keyOf (schemaOf (now (schema .entry))) k)) × (x ≤ 1024) ⌝ }
 {
-    let key = key_rows(schema, k);
+    let key = searched_rows(schema, k);
     let rows = key.children.count;
     let mut m = 0;
     let mut j = 0;

@@ -45,7 +45,7 @@ module _ (k : ForeignKey) (t : ℕ) (x : Row) (tabs : Tables) where
 module _ (k : ForeignKey) (same : length (k .parentColumns) ≡ length (k .childColumns)) (t r : ℕ) (x y : Row) (tabs : Tables) where
   by-tests : strandedRows k t r x y tabs ≡ pick (fires y t x k && not (hasTwin k r x tabs)) (takenRows k t r x tabs)
   unfolding hasTwin takenRows
-  by-tests = stranded-rows k (sym same) t r x y tabs
+  by-tests = stranded-rows k t r x y tabs (sym same)
 
   pub none-fires : fires y t x k ≡ false → 0 ≡ strandedRows k t r x y tabs
   unfolding pick
@@ -78,7 +78,7 @@ fires-parent k t x y h = eqb→eq (k .parent) t (holds (and-left (eqb (k .parent
 -- the old key then has no NULL
 pub fires-full : (k : ForeignKey) (t : ℕ) (x y : Row) {ps : List ℕ} → ps ≡ k .parentColumns → fires y t x k ≡ true → fullKey ps x ≡ true
 unfolding fires
-fires-full k t x y e h = rw e (and-left (fullKey (k .parentColumns) x) _ (and-right (eqb (k .parent) t) _ h))
+fires-full k t x y e h = rw e (and-left (fullKey (k .parentColumns) x) _ (and-right (not (k .broken)) _ (and-right (eqb (k .parent) t) _ h)))
 
 -- ---- the scans
 module _ (b : List ℕ) (a : List ℤ) (k t r n : ℕ) (cs ps : List ℕ) (h : Placed b a t r) (c : KeyColumns b k n cs ps) where

@@ -1,6 +1,6 @@
 -- The orphans that a row makes by having one image and not another.
 -- Assumes nothing.
-use mathlib.Core.Bool.{Bool, _||_}
+use mathlib.Core.Bool.{Bool}
 use mathlib.Core.List.{List, [], map}
 use Prim.Native.Nat.{ℕ, _+_}
 use lib.Dec.{eqb}
@@ -11,10 +11,6 @@ use Rattle.rules.specs.Lists.{any, count, padded}
 use Rattle.rules.specs.Rows.{Row, Tables}
 use Rattle.rules.specs.Keys.{takes, sameParentKey}
 use Rattle.moves.specs.Movement.{except, exceptIf, ownOrphan, strandedRows}
-
--- table t is the foreign key's child or its parent
-unfoldable pub touches : ℕ → ForeignKey → Bool
-touches t k = eqb (k .child) t || eqb (k .parent) t
 
 module _ (k : ForeignKey) (t r : ℕ) where
   -- the child rows, but for row r of table t, that have x's parent key

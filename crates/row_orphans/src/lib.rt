@@ -5,24 +5,13 @@ ghost use Prim.Native.Nat.{_≤_, _<_};
 ghost use lib.ListN.{length, take};
 ghost use Rattle.schema.specs.Records.{keyOf};
 ghost use Rattle.schema.specs.Fields.{schemaOf};
-ghost use Rattle.schema.specs.Check.{checkSchema};
 ghost use Rattle.rules.specs.Keys.{fullKey};
 ghost use Rattle.bridge.specs.Fit.{workOf};
 ghost use Rattle.bridge.specs.Ready.{Ready, Placed};
 ghost use Rattle.moves.specs.Movement.{ownOrphan, strandedRows};
 ghost use Rattle.rows.specs.KeyColumns.{KeyColumns};
+ghost use Rattle.table_keys.specs.Touched.{WholeKeys};
 ghost use Rattle.row_orphans.specs.RowOrphans;
-use schema::SchemaAnswer;
-
-// Whether table t is the child or the parent of foreign key k.
-fn touches(schema: &[u8], k: usize, t: usize) -> bool
-    requires { ⌜ (checkSchema (now schema) ≡ SchemaAnswer.Accepted) × (k < length (schemaOf (now schema) .keys)) ⌝ }
-    ensures { λ x. ⌜ x ≡ RowOrphans.touches t (keyOf (schemaOf (now (schema .entry))) k) ⌝ }
-{
-    let child = fields::child(schema, k);
-    let parent = fields::parent(schema, k);
-    child == t || parent == t
-}
 
 // 1 where table t is the child of foreign key k and a row of it with an image is an orphan, else 0.
 fn own_orphan(
@@ -121,19 +110,21 @@ fn stranded_rows(
 }
 
 // The orphans of foreign key k that row r of table t makes by having image x and not y: itself, and the child rows that y would serve.
+// `whole` has the keys that touch the table and are not broken.
 fn key_orphans(
     schema: &[u8],
     area: &[i64],
+    whole: usize,
     k: usize,
     t: usize,
     r: usize,
     x: [i64; 9],
     y: [i64; 9],
 ) -> usize
-    requires { ⌜ Placed (now schema) (now area) t r × (k < length (schemaOf (now schema) .keys)) ⌝ }
+    requires { ⌜ Placed (now schema) (now area) t r × (WholeKeys (now schema) t whole × (k < length (schemaOf (now schema) .keys))) ⌝ }
     ensures { λ z. ⌜ (z ≡ RowOrphans.rowOrphans (keyOf (schemaOf (now (schema .entry))) k) t r x y (workOf (schemaOf (now (schema .entry))) (now (area .entry)) .tabs)) × (z ≤ 1025) ⌝ }
 {
-    if !touches(schema, k, t) {
+    if !numbers::bit_of(k, whole) {
         return 0;
     }
     let n = fields::width(schema, k);
@@ -147,19 +138,20 @@ fn key_orphans(
 pub fn row_counts(
     schema: &[u8],
     area: &[i64],
+    whole: usize,
     t: usize,
     r: usize,
     x: [i64; 9],
     y: [i64; 9],
 ) -> [i64; 32]
-    requires { ⌜ Placed (now schema) (now area) t r ⌝ }
+    requires { ⌜ Placed (now schema) (now area) t r × WholeKeys (now schema) t whole ⌝ }
     ensures { λ z. ⌜ z ≡ RowOrphans.rowCounts (schemaOf (now (schema .entry))) t r x y (workOf (schemaOf (now (schema .entry))) (now (area .entry)) .tabs) ⌝ }
 {
     let mut counts = [0i64; 32];
     let n = fields::key_count(schema);
     let mut k = 0;
     while k < n {
-        let c = key_orphans(schema, area, k, t, r, x, y);
+        let c = key_orphans(schema, area, whole, k, t, r, x, y);
         counts[k] = words::word_of(c);
         k += 1;
     }

@@ -14,6 +14,6 @@ module _ (new : Row) (t : ℕ) (old : Row) (k : ForeignKey) where
   unfolding fires
   fires-other h = sym (rw (ne-eqb (k .parent) t h))
 
-  pub fires-rest : k .parent ≡ t → {ps : List ℕ} → ps ≡ k .parentColumns → fullKey ps old && not (live new && sameKey ps ps new old) ≡ fires new t old k
+  pub fires-rest : k .parent ≡ t → k .broken ≡ false → {ps : List ℕ} → ps ≡ k .parentColumns → fullKey ps old && not (live new && sameKey ps ps new old) ≡ fires new t old k
   unfolding fires sameParentKey
-  fires-rest h e = rw (e, eq-eqb (k .parent) t h)
+  fires-rest h u e = rw (e, eq-eqb (k .parent) t h, u)

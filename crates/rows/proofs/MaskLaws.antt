@@ -7,7 +7,7 @@ use Prim.Native.Nat.{ℕ, zero, suc, _+_, _-_, _*_, _/_, _^_, _≤_, _<_}
 use native.Mathlib.Nat.{add-zero, zero-add, zero-mul, div-eq-of-lt, lt-of-lt-of-le, lt-div-mul-add}
 use native.Mathlib.Numerals.{add-one}
 use native.Mathlib.Omega.{arith}
-use borrow.Author.Tests.{ne-eqb, eqb-true, leb-true, leb-false}
+use borrow.Author.Tests.{ne-eqb, leb-true, leb-false}
 use lib.Dec.{leb}
 use lib.ListN.{length, getD, set, take, drop}
 use lib.Pow.{pow-pos, pow-mono}
@@ -19,10 +19,10 @@ use Rattle.schema.specs.Records.{Table, tableOf}
 use Rattle.schema.specs.Fields
 use Rattle.schema.specs.Fields.{tableFrom, schemaOf}
 use Rattle.schema.specs.Check
-use Rattle.schema.proofs.RangeLaws.{all-at}
 use Rattle.schema.proofs.ListLaws.{length-from}
 use Rattle.schema.proofs.Formed.{formed}
 use Rattle.schema.proofs.SchemaLaws.{tables-are, table-is, accepted-formed}
+use Rattle.schema.proofs.KeyLaws.{unique-high}
 use Rattle.schema.proofs.FieldLaws.{read-unique}
 use Rattle.rules.specs.Lists.{any, one}
 use Rattle.rules.specs.Rows.{Row}
@@ -123,12 +123,9 @@ mask-inside m n e =
 module _ (bs : List ℕ) (acc : Check.checkSchema bs ≡ Accepted) (t : ℕ) (h : t < length (schemaOf bs .tables)) where
   -- the unique keys of a table are among its columns
   pub unique-inside : (i : ℕ) → i < 4 → MaskWithin (suc (tableOf (schemaOf bs) t .columns)) (getD (tableOf (schemaOf bs) t .uniques) i 0)
-  unfolding Check.maskRule tableFrom
+  unfolding tableFrom
   unique-inside i l =
-      let f = formed bs (accepted-formed bs acc) .table t (omega (arith, tables-are bs)) .masks in
-      let r = all-at (Check.maskRule bs (Fields.tableStart t + 3) (Fields.columnsOf bs t)) 6 0 f (i + 1) (omega arith) in
-      let at : Fields.tableStart t + 3 + (0 + (i + 1)) ≡ Fields.tableStart t + 4 + i = omega arith in
-      let z : Fields.uniqueOf bs t i / 2 ^ Fields.columnsOf bs t ≡ 0 = eqb-true _ _ (rw at at r) in
+      let z : Fields.uniqueOf bs t i / 2 ^ Fields.columnsOf bs t ≡ 0 = unique-high bs (formed bs (accepted-formed bs acc)) t (omega (arith, tables-are bs)) i l in
       rw (← read-unique bs acc t h i l refl, table-is bs t h) (mask-inside (Fields.uniqueOf bs t i) (Fields.columnsOf bs t) z)
 
   pub masks-four : length (tableOf (schemaOf bs) t .uniques) ≡ 4

@@ -1,6 +1,7 @@
 -- The rows of a table as they stand in the area, and the columns of its keys.
 -- Assumes nothing.
 use mathlib.Core.Path.{subst, _≡_, refl, sym, ap, ap₂, _∙_}
+use mathlib.Core.Bool.{false}
 use mathlib.Core.List.{List, []}
 use Prim.Native.Nat.{ℕ, suc, _+_, _*_, _≤_, _<_}
 use native.Mathlib.Omega.{arith}
@@ -14,7 +15,8 @@ use Rattle.schema.specs.Fields.{schemaOf}
 use Rattle.schema.specs.Check.{checkSchema}
 use Rattle.schema.specs.Sizes.{tableSize, rowsSize, tableOffset, areaSize}
 use Rattle.schema.proofs.ListLaws.{length-from, get-list}
-use Rattle.schema.proofs.FieldLaws.{read-rows, read-columns, read-child, read-parent}
+use Rattle.schema.proofs.KeyLaws.{parent-key}
+use Rattle.schema.proofs.FieldLaws.{read-rows, read-columns, read-child}
 use Rattle.rules.specs.Rows.{rowAt}
 use Rattle.bridge.specs.Fit.{workOf}
 use Rattle.bridge.specs.Ready.{Ready, rowIn}
@@ -55,8 +57,8 @@ module _ (b : List ℕ) (acc : checkSchema b ≡ Accepted) where
     pub child-table : keyOf (schemaOf b) k .child < length (schemaOf b .tables)
     child-table = let r = read-child b acc k h refl in omega (arith, r .0, r .1)
 
-    pub parent-table : keyOf (schemaOf b) k .parent < length (schemaOf b .tables)
-    parent-table = let r = read-parent b acc k h refl in omega (arith, r .0, r .1)
+    pub parent-table : keyOf (schemaOf b) k .broken ≡ false → keyOf (schemaOf b) k .parent < length (schemaOf b .tables)
+    parent-table u = parent-key b acc k h u .there
 
 -- ---- rows of a table
 offset-is : (b : List ℕ) (t j : ℕ) → tableOffset (schemaOf b) t + j * suc (tableOf (schemaOf b) t .columns) ≡ 333 + rowOffset (schemaOf b) t j
@@ -124,18 +126,19 @@ module _ (b : List ℕ) (acc : checkSchema b ≡ Accepted) (k : ℕ) (h : k < le
   read : {w : ℕ} {columns cs : List ℕ} → Read w (length (keyOf (schemaOf b) k .childColumns)) columns cs → Read w n columns cs
   read {w} {columns} {cs} r = subst (λ (m : ℕ). Read w m columns cs) (sym e) r
 
-  module _ (ps : List ℕ) (g : Read (tableOf (schemaOf b) (keyOf (schemaOf b) k .parent) .columns) (length (keyOf (schemaOf b) k .childColumns)) (keyOf (schemaOf b) k .parentColumns) ps) where
+  module _ (u : keyOf (schemaOf b) k .broken ≡ false) (ps : List ℕ) (g : Read (tableOf (schemaOf b) (keyOf (schemaOf b) k .parent) .columns) (length (keyOf (schemaOf b) k .childColumns)) (keyOf (schemaOf b) k .parentColumns) ps) where
     pub parent-read : take n ps ≡ keyOf (schemaOf b) k .parentColumns
     parent-read = read g .0
 
     pub parent-nine : Columns 9 n ps
-    parent-nine = widen (omega (arith, columns-few b acc (keyOf (schemaOf b) k .parent) (parent-table b acc k h))) (read g .1)
+    parent-nine = widen (omega (arith, columns-few b acc (keyOf (schemaOf b) k .parent) (parent-table b acc k h u))) (read g .1)
 
     pub key-columns : (cs : List ℕ) → Read (tableOf (schemaOf b) (keyOf (schemaOf b) k .child) .columns) (length (keyOf (schemaOf b) k .childColumns)) (keyOf (schemaOf b) k .childColumns) cs → KeyColumns b k n cs ps
     key-columns cs f =
         record {
           accepted = acc;
           key = h;
+          whole = u;
           child-is = read f .0;
           parent-is = parent-read;
           child-within = read f .1;
@@ -147,8 +150,11 @@ module _ (b : List ℕ) (k n : ℕ) (cs ps : List ℕ) (h : KeyColumns b k n cs 
   child-wide = widen (omega (arith, columns-few b (h .accepted) (keyOf (schemaOf b) k .child) (child-table b (h .accepted) k (h .key)))) (h .child-within)
 
   pub parent-wide : Columns 9 n ps
-  parent-wide = widen (omega (arith, columns-few b (h .accepted) (keyOf (schemaOf b) k .parent) (parent-table b (h .accepted) k (h .key)))) (h .parent-within)
+  parent-wide = widen (omega (arith, columns-few b (h .accepted) (keyOf (schemaOf b) k .parent) (parent-table b (h .accepted) k (h .key) (h .whole)))) (h .parent-within)
 
   -- in the rows of the parent table
+  pub parent-there : {t : ℕ} → t ≡ keyOf (schemaOf b) k .parent → t < length (schemaOf b .tables)
+  parent-there e = rw e (parent-table b (h .accepted) k (h .key) (h .whole))
+
   pub parent-in : {t : ℕ} {x : TableRows} → t ≡ keyOf (schemaOf b) k .parent → RowsOf b t x → Columns (x .width) n ps
   parent-in e r = rw (r .width-is, e) (h .parent-within)

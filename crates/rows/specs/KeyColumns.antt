@@ -1,7 +1,7 @@
 -- The columns of keys, as arrays.
 -- Assumes nothing.
 use mathlib.Core.Path.{_≡_}
-use mathlib.Core.Bool.{Bool, not, _&&_}
+use mathlib.Core.Bool.{Bool, false, not, _&&_}
 use mathlib.Core.List.{List}
 use Prim.Native.Nat.{ℕ, suc, _<_}
 use lib.Dec.{eqb}
@@ -15,10 +15,11 @@ use Rattle.rules.specs.Rows.{Row}
 use Rattle.rules.specs.Keys.{fullKey, maskColumns}
 use Rattle.rules.specs.Change.{twice}
 
--- the columns of foreign key k: its n child columns at the start of cs, its n parent columns at the start of ps
+-- the columns of foreign key k, which is not broken: its n child columns at the start of cs, its n parent columns at the start of ps
 pub record KeyColumns (b : List ℕ) (k n : ℕ) (cs ps : List ℕ) : Type 0 where
   pub accepted : checkSchema b ≡ Accepted
   pub key : k < length (schemaOf b .keys)
+  pub whole : keyOf (schemaOf b) k .broken ≡ false
   pub child-is : take n cs ≡ keyOf (schemaOf b) k .childColumns
   pub parent-is : take n ps ≡ keyOf (schemaOf b) k .parentColumns
   pub child-within : Columns (suc (tableOf (schemaOf b) (keyOf (schemaOf b) k .child) .columns)) n cs

@@ -297,9 +297,9 @@ fn key_changes(old: [i64; 9], new: [i64; 9], n: usize, ps: [usize; 8]) -> bool
     !image_holds_key(new, key)
 }
 
-// Whether actions of foreign key k follow the change of a row of table t from `old` to `new`.
+// Whether actions of foreign key k, which is not broken, follow the change of a row of table t from `old` to `new`.
 pub fn fires(schema: &[u8], t: usize, old: [i64; 9], new: [i64; 9], k: usize) -> bool
-    requires { ⌜ (checkSchema (now schema) ≡ SchemaAnswer.Accepted) × (k < length (schemaOf (now schema) .keys)) ⌝ }
+    requires { ⌜ (checkSchema (now schema) ≡ SchemaAnswer.Accepted) × ((k < length (schemaOf (now schema) .keys)) × (keyOf (schemaOf (now schema)) k .broken ≡ false)) ⌝ }
     ensures { λ x. ⌜ x ≡ Keys.fires new t old (keyOf (schemaOf (now (schema .entry))) k) ⌝ }
 {
     if fields::parent(schema, k) != t {

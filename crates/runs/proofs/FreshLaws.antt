@@ -7,7 +7,7 @@ use Prim.Native.Nat.{ℕ}
 use lib.IntN.{ℤ}
 use lib.ListN.{length, replicate}
 use Rattle.schema.specs.declared.SchemaAnswer.{SchemaAnswer}
-use Rattle.schema.specs.declared.SchemaAnswer.the-variants.{Accepted, Malformed, Unmatched}
+use Rattle.schema.specs.declared.SchemaAnswer.the-variants.{Accepted, Malformed}
 use Rattle.schema.specs.Fields.{schemaOf}
 use Rattle.schema.specs.Check.{checkSchema}
 use Rattle.rules.specs.Lists.{𝟘}
@@ -18,7 +18,7 @@ use Rattle.bridge.proofs.Tests.{all-head, all-tail}
 use Rattle.laws.specs.Reached.{Reached}
 use Rattle.laws.proofs.Reached.{reached-fresh}
 use Rattle.fresh_area.specs.Fresh.{areaWords}
-use Rattle.fresh_area.proofs.FreshLaws.{words-accepted, words-malformed, words-unmatched}
+use Rattle.fresh_area.proofs.FreshLaws.{words-accepted, words-malformed}
 
 all-zeros : (ws : List ℤ) → allZero ws ≡ true → ws ≡ replicate (length ws) 𝟘
 unfolding allZero
@@ -32,7 +32,6 @@ blank-reached bs ws some size zero = by (checkSchema bs) refl
   where
     by : (k : SchemaAnswer) → checkSchema bs ≡ k → Reached bs ws
     by Malformed e = absurd (some (sym (words-malformed bs e)))
-    by Unmatched e = absurd (some (sym (words-unmatched bs e)))
     by Accepted e =
         let fresh : ws ≡ freshWords (schemaOf bs) = all-zeros ws zero ∙ ap (λ n. replicate n 𝟘) (size ∙ sym (words-accepted bs e refl)) in
         subst (Reached bs) (sym fresh) (reached-fresh bs e)

@@ -21,7 +21,7 @@ use Rattle.rows.specs.declared.SoughtKey.{SoughtKey}
 use Rattle.rows.specs.declared.TableRows.{TableRows}
 use Rattle.rows.specs.Sought.{hasSought, SoughtIn}
 use Rattle.rows.specs.Standing.{rowsIn}
-use Rattle.rows.proofs.LoopLaws.{any-none, any-hit, count-more, count-none}
+use Rattle.bridge.proofs.LoopLaws.{any-none, any-hit, count-more, count-none}
 use Rattle.rows.proofs.TableLaws.{rows-many, row-get}
 use Rattle.scans.specs.FirstFrom.{FirstFrom, FirstRow}
 

@@ -30,7 +30,7 @@ sought-key-requires c κs =
     let s = c .before .before .before .before .before .before in
     let child-columns = c .before .child-columns in
     let parent-columns = c .parent-columns in
-    let columns = key-columns (s .args .schema .now) (s .pre .0 .0) (s .args .k) (s .pre .0 .1) (c .before .before .width .ensures .0) (parent-columns .result) (parent-columns .ensures) (child-columns .result) (child-columns .ensures) in
+    let columns = key-columns (s .args .schema .now) (s .pre .0 .0) (s .args .k) (s .pre .0 .1 .0) (c .before .before .width .ensures .0) (s .pre .0 .1 .1) (parent-columns .result) (parent-columns .ensures) (child-columns .result) (child-columns .ensures) in
     let full : fullKey (take (c .before .before .width .result) (parent-columns .result)) (s .args .old) ≡ true = ap (λ (l : List ℕ). fullKey l (s .args .old)) (columns .parent-is) ∙ s .pre .1 in
     (parent-wide _ _ _ _ _ columns, full)
 
@@ -45,7 +45,7 @@ returns c =
     let width = c .before .before .before .before .width in
     let child-columns = c .before .before .before .child-columns in
     let parent-columns = c .before .before .parent-columns in
-    let columns = key-columns (s .args .schema .now) (s .pre .0 .0) (s .args .k) (s .pre .0 .1) (width .ensures .0) (parent-columns .result) (parent-columns .ensures) (child-columns .result) (child-columns .ensures) in
+    let columns = key-columns (s .args .schema .now) (s .pre .0 .0) (s .args .k) (s .pre .0 .1 .0) (width .ensures .0) (s .pre .0 .1 .1) (parent-columns .result) (parent-columns .ensures) (child-columns .result) (child-columns .ensures) in
     followers-are (s .args .schema .now) (s .args .k) (s .args .old) (s .args .new) columns (child .ensures .0) (rows-of .ensures) (c .before .sought-key .ensures) (c .action-of .ensures)
 
 pub followers-of-spec : {M : Type 1} → statement M

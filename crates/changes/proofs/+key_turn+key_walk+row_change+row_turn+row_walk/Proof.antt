@@ -8,12 +8,14 @@ use lib.IntN.{ℤ}
 use lib.ListN.{length, drop}
 use Rattle.schema.specs.Fields.{schemaOf}
 use Rattle.schema.specs.Records.{tableOf, keyOf}
+use Rattle.schema.proofs.SchemaLaws.{accepted-valid}
 use Rattle.rules.specs.Lists.{upFrom}
 use Rattle.rules.specs.Rows.{image}
 use Rattle.rules.specs.Book.{Work}
 use Rattle.rules.specs.Change.{actions, change}
 use Rattle.rules.specs.KeyValues.{childrenByValues}
 use Rattle.bridge.specs.Fit.{workOf}
+use Rattle.table_keys.proofs.TouchLaws.{in-whole, not-whole}
 use Rattle.moves.specs.Tally.{Follows}
 use Rattle.moves.proofs.TallyLaws.{follows-refl, follows-trans, tallied-after}
 use Rattle.rows.specs.Sought.{soughtValues}
@@ -40,17 +42,19 @@ use Rattle.change_parts.proofs.admits.Reads as admits-reads
 use Rattle.change_parts.proofs.child_after.Reads as child-after-reads
 use Rattle.change_parts.proofs.followers_of.Reads as followers-of-reads
 use Rattle.fields.proofs.key_count.Reads as key-count-reads
+use Rattle.numbers.proofs.bit_of.Reads as bit-of-reads
 use Rattle.rows.proofs.fires.Reads as fires-reads
 use Rattle.scans.proofs.first_with_key.Reads as first-with-key-reads
+use Rattle.table_keys.proofs.keys_of.Reads as keys-of-reads
 use Rattle.tally.proofs.write_tallied.Reads as write-tallied-reads
 use Rattle.changes.proofs.+key_turn+key_walk+row_change+row_turn+row_walk.{statement}
 use Rattle.changes.proofs.+key_turn+key_walk+row_change+row_turn+row_walk.Tie.{close}
 
 abbrev μ-key-turn : Measures 3 key-turn-kinds.ps ℕ
-μ-key-turn κs a = 5 * a .1 .1 .1 .1 .1 .1 .1 .0 + 3
+μ-key-turn κs a = 5 * a .1 .1 .1 .1 .1 .1 .1 .1 .0 + 3
 
 abbrev μ-key-walk : Measures 3 key-walk-kinds.ps ℕ
-μ-key-walk κs a = 5 * a .1 .1 .1 .1 .1 .1 .0 + 4
+μ-key-walk κs a = 5 * a .1 .1 .1 .1 .1 .1 .1 .0 + 4
 
 abbrev μ-row-change : Measures 3 row-change-kinds.ps ℕ
 μ-row-change κs a = 5 * a .1 .1 .1 .1 .1 .1 .0
@@ -97,7 +101,9 @@ abbrev row-walk-below : ℕ → In 3 row-walk-kinds.ps
 row-walk-below t =
     and 3 row-walk-kinds.ps (falls 3 row-walk-kinds.ps _<_ μ-row-walk t) row-walk.Pre
 
-key-turn-fires-requires : (t : ℕ) → key-turn-lts.Need-fires-requires (
+key-turn-bit-of-requires : (t : ℕ) → key-turn-lts.Need-bit-of-requires (
+  bit-of-reads.Asked,
+  bit-of-reads.Learnt,
   fires-reads.Asked,
   fires-reads.Learnt,
   followers-of-reads.Asked,
@@ -105,9 +111,11 @@ key-turn-fires-requires : (t : ℕ) → key-turn-lts.Need-fires-requires (
   row-walk-below t,
   row-walk.Post,
 ) (key-turn-at t) key-turn.Post
-key-turn-fires-requires t c κs = (c .before .pre .1 .0 .ready .accepted, c .before .pre .1 .1)
+key-turn-bit-of-requires t c κs = omega (arith, accepted-valid _ (c .before .pre .1 .0 .ready .accepted) .few, c .before .pre .1 .1 .1)
 
 key-turn-returns : (t : ℕ) → key-turn-lts.Need-returns (
+  bit-of-reads.Asked,
+  bit-of-reads.Learnt,
   fires-reads.Asked,
   fires-reads.Learnt,
   followers-of-reads.Asked,
@@ -115,9 +123,40 @@ key-turn-returns : (t : ℕ) → key-turn-lts.Need-returns (
   row-walk-below t,
   row-walk.Post,
 ) (key-turn-at t) key-turn.Post
-key-turn-returns t c = (law.key-off _ _ _ _ _ _ _ (sym (c .before .fires .ensures) ∙ not-true _ (c .if1 .taken)), follows-refl (c .before .before .before .pre .1 .0 .ready .fit))
+key-turn-returns t c =
+    let s = c .before .before .before in
+    let miss = not-whole (s .pre .1 .1 .0) (s .args .k) (s .pre .1 .1 .1) (c .before .bit-of .ensures) (c .if1 .taken) in
+    (law.key-off _ _ _ _ _ _ _ (law.not-whole-still _ _ _ _ miss), follows-refl (s .pre .1 .0 .ready .fit))
+
+key-turn-fires-requires : (t : ℕ) → key-turn-lts.Need-fires-requires (
+  bit-of-reads.Asked,
+  bit-of-reads.Learnt,
+  fires-reads.Asked,
+  fires-reads.Learnt,
+  followers-of-reads.Asked,
+  followers-of-reads.Learnt,
+  row-walk-below t,
+  row-walk.Post,
+) (key-turn-at t) key-turn.Post
+key-turn-fires-requires t c κs =
+    let s = c .before .before .before in
+    (s .pre .1 .0 .ready .accepted, (s .pre .1 .1 .1, in-whole (s .pre .1 .1 .0) (s .args .k) (s .pre .1 .1 .1) (c .before .bit-of .ensures) (c .if1 .left)))
+
+key-turn-returns-2 : (t : ℕ) → key-turn-lts.Need-returns-2 (
+  bit-of-reads.Asked,
+  bit-of-reads.Learnt,
+  fires-reads.Asked,
+  fires-reads.Learnt,
+  followers-of-reads.Asked,
+  followers-of-reads.Learnt,
+  row-walk-below t,
+  row-walk.Post,
+) (key-turn-at t) key-turn.Post
+key-turn-returns-2 t c = (law.key-off _ _ _ _ _ _ _ (sym (c .before .fires .ensures) ∙ not-true _ (c .if2 .taken)), follows-refl (c .before .before .before .before .before .pre .1 .0 .ready .fit))
 
 key-turn-followers-of-requires : (t : ℕ) → key-turn-lts.Need-followers-of-requires (
+  bit-of-reads.Asked,
+  bit-of-reads.Learnt,
   fires-reads.Asked,
   fires-reads.Learnt,
   followers-of-reads.Asked,
@@ -125,9 +164,15 @@ key-turn-followers-of-requires : (t : ℕ) → key-turn-lts.Need-followers-of-re
   row-walk-below t,
   row-walk.Post,
 ) (key-turn-at t) key-turn.Post
-key-turn-followers-of-requires t c κs = ((c .before .before .before .pre .1 .0 .ready .accepted, c .before .before .before .pre .1 .1), law.old-full (change 0 (schemaOf (c .before .before .before .args .schema .now))) (schemaOf (c .before .before .before .args .schema .now)) _ _ _ _ (workOf (schemaOf (c .before .before .before .args .schema .now)) (c .before .before .before .args .area .now)) (sym (c .before .fires .ensures) ∙ not-false _ (c .if1 .left)))
+key-turn-followers-of-requires t c κs =
+    let s = c .before .before .before .before .before in
+    let sc = schemaOf (s .args .schema .now) in
+    let whole = in-whole (s .pre .1 .1 .0) (s .args .k) (s .pre .1 .1 .1) (c .before .before .before .bit-of .ensures) (c .before .before .if1 .left) in
+    ((s .pre .1 .0 .ready .accepted, (s .pre .1 .1 .1, whole)), law.old-full (change 0 sc) sc _ _ _ _ (workOf sc (s .args .area .now)) (sym (c .before .fires .ensures) ∙ not-false _ (c .if2 .left)))
 
 key-turn-row-walk-requires : (t : ℕ) → key-turn-lts.Need-row-walk-requires (
+  bit-of-reads.Asked,
+  bit-of-reads.Learnt,
   fires-reads.Asked,
   fires-reads.Learnt,
   followers-of-reads.Asked,
@@ -135,9 +180,11 @@ key-turn-row-walk-requires : (t : ℕ) → key-turn-lts.Need-row-walk-requires (
   row-walk-below t,
   row-walk.Post,
 ) (key-turn-at t) key-turn.Post
-key-turn-row-walk-requires t c κs = (search needs, (c .before .before .before .before .before .before .pre .1 .0, c .before .before .followers-of .ensures .0))
+key-turn-row-walk-requires t c κs = (search needs, (c .before .before .before .before .before .before .before .before .pre .1 .0, c .before .before .followers-of .ensures .0))
 
 key-turn-same-length : (t : ℕ) → key-turn-lts.Need-same-length (
+  bit-of-reads.Asked,
+  bit-of-reads.Learnt,
   fires-reads.Asked,
   fires-reads.Learnt,
   followers-of-reads.Asked,
@@ -147,7 +194,9 @@ key-turn-same-length : (t : ℕ) → key-turn-lts.Need-same-length (
 ) (key-turn-at t) key-turn.Post
 key-turn-same-length t c = search needs
 
-key-turn-returns-2 : (t : ℕ) → key-turn-lts.Need-returns-2 (
+key-turn-returns-3 : (t : ℕ) → key-turn-lts.Need-returns-3 (
+  bit-of-reads.Asked,
+  bit-of-reads.Learnt,
   fires-reads.Asked,
   fires-reads.Learnt,
   followers-of-reads.Asked,
@@ -155,13 +204,13 @@ key-turn-returns-2 : (t : ℕ) → key-turn-lts.Need-returns-2 (
   row-walk-below t,
   row-walk.Post,
 ) (key-turn-at t) key-turn.Post
-key-turn-returns-2 t c = (c .before .row-walk .ensures .0 ∙ law.key-on _ _ _ _ _ _ _ (sym (c .before .before .before .before .before .before .fires .ensures) ∙ not-false _ (c .before .before .before .before .before .if1 .left)) (c .before .before .before .before .followers-of .ensures .1), c .before .row-walk .ensures .1)
+key-turn-returns-3 t c = (c .before .row-walk .ensures .0 ∙ law.key-on _ _ _ _ _ _ _ (sym (c .before .before .before .before .before .before .fires .ensures) ∙ not-false _ (c .before .before .before .before .before .if2 .left)) (c .before .before .before .before .followers-of .ensures .1), c .before .row-walk .ensures .1)
 
 abbrev key-walk-Inv-loop : key-walk-lts.InvT-loop
-key-walk-Inv-loop schema area₀ tally₀ t old new left n k₀ area tally k = (k ≤ n) × ((length area ≡ length area₀) × (Follows (schemaOf schema) tally₀ area₀ tally area × (actions (change left (schemaOf schema)) (schemaOf schema) new t old ((schemaOf schema) .keys) (workOf (schemaOf schema) area₀) ≡ actions (change left (schemaOf schema)) (schemaOf schema) new t old (drop k ((schemaOf schema) .keys)) (workOf (schemaOf schema) area))))
+key-walk-Inv-loop schema area₀ tally₀ whole t old new left n k₀ area tally k = (k ≤ n) × ((length area ≡ length area₀) × (Follows (schemaOf schema) tally₀ area₀ tally area × (actions (change left (schemaOf schema)) (schemaOf schema) new t old ((schemaOf schema) .keys) (workOf (schemaOf schema) area₀) ≡ actions (change left (schemaOf schema)) (schemaOf schema) new t old (drop k ((schemaOf schema) .keys)) (workOf (schemaOf schema) area))))
 
 abbrev key-walk-μ-loop : key-walk-lts.MeasureT-loop
-key-walk-μ-loop schema area₀ tally₀ t old new left n k₀ area tally k = n - k
+key-walk-μ-loop schema area₀ tally₀ whole t old new left n k₀ area tally k = n - k
 
 key-walk-key-count-requires : (t : ℕ) → key-walk-lts.Need-key-count-requires (
   key-count-reads.Asked,
@@ -169,7 +218,7 @@ key-walk-key-count-requires : (t : ℕ) → key-walk-lts.Need-key-count-requires
   key-turn-below t,
   key-turn.Post,
 ) (key-walk-at t) key-walk.Post key-walk-Inv-loop key-walk-μ-loop
-key-walk-key-count-requires t c κs = c .before .pre .1 .ready .accepted
+key-walk-key-count-requires t c κs = c .before .pre .1 .0 .ready .accepted
 
 key-walk-loop-holds : (t : ℕ) → key-walk-lts.Need-loop-holds (
   key-count-reads.Asked,
@@ -177,7 +226,7 @@ key-walk-loop-holds : (t : ℕ) → key-walk-lts.Need-loop-holds (
   key-turn-below t,
   key-turn.Post,
 ) (key-walk-at t) key-walk.Post key-walk-Inv-loop key-walk-μ-loop
-key-walk-loop-holds t c = (search needs, (refl, (follows-refl (c .before .before .pre .1 .ready .fit), refl)))
+key-walk-loop-holds t c = (search needs, (refl, (follows-refl (c .before .before .pre .1 .0 .ready .fit), refl)))
 
 key-walk-key-turn-requires : (t : ℕ) → key-walk-lts.Need-key-turn-requires (
   key-count-reads.Asked,
@@ -191,7 +240,7 @@ key-walk-key-turn-requires t c κs =
     let sc = schemaOf (a .schema .now) in
     let l = c .before .before .before .loop in
     let lt : l .k < length (sc .keys) = omega (arith, c .before .before .before .before .key-count .ensures .0, c .before .before .loop-test .taken) in
-    (search needs, (tallied-after (s .pre .1) (l .inv .1 .1 .0), lt))
+    (search needs, (tallied-after (s .pre .1 .0) (l .inv .1 .1 .0), (s .pre .1 .1, lt)))
 
 key-walk-enum-told : (t : ℕ) → key-walk-lts.Need-enum-told (
   key-count-reads.Asked,
@@ -290,6 +339,8 @@ key-walk-returns-2 t c =
     (sym (l .inv .1 .1 .1 ∙ law.keys-none _ _ _ _ _ _ _ e), l .inv .1 .1 .0)
 
 row-change-returns : (t : ℕ) → row-change-lts.Need-returns (
+  keys-of-reads.Asked,
+  keys-of-reads.Learnt,
   admits-reads.Asked,
   admits-reads.Learnt,
   write-tallied-reads.Asked,
@@ -299,7 +350,21 @@ row-change-returns : (t : ℕ) → row-change-lts.Need-returns (
 ) (row-change-at t) row-change.Post
 row-change-returns t c = (law.change-none _ _ _ _ _ _ (c .if1 .taken), follows-refl (c .before .before .pre .1 .tallied .ready .fit))
 
+row-change-keys-of-requires : (t : ℕ) → row-change-lts.Need-keys-of-requires (
+  keys-of-reads.Asked,
+  keys-of-reads.Learnt,
+  admits-reads.Asked,
+  admits-reads.Learnt,
+  write-tallied-reads.Asked,
+  write-tallied-reads.Learnt,
+  key-walk-below t,
+  key-walk.Post,
+) (row-change-at t) row-change.Post
+row-change-keys-of-requires t c κs = c .before .before .pre .1 .tallied .ready .accepted
+
 row-change-admits-requires : (t : ℕ) → row-change-lts.Need-admits-requires (
+  keys-of-reads.Asked,
+  keys-of-reads.Learnt,
   admits-reads.Asked,
   admits-reads.Learnt,
   write-tallied-reads.Asked,
@@ -308,10 +373,12 @@ row-change-admits-requires : (t : ℕ) → row-change-lts.Need-admits-requires (
   key-walk.Post,
 ) (row-change-at t) row-change.Post
 row-change-admits-requires t c κs =
-    let at = c .before .before .before .pre .1 in
-    record { ready = at .tallied .ready; table = at .table; row = at .row }
+    let at = c .before .before .before .before .pre .1 in
+    (record { ready = at .tallied .ready; table = at .table; row = at .row }, c .before .keys-of .ensures .broken)
 
 row-change-enum-known-c : (t : ℕ) → row-change-lts.Need-enum-known-c (
+  keys-of-reads.Asked,
+  keys-of-reads.Learnt,
   admits-reads.Asked,
   admits-reads.Learnt,
   write-tallied-reads.Asked,
@@ -322,6 +389,8 @@ row-change-enum-known-c : (t : ℕ) → row-change-lts.Need-enum-known-c (
 row-change-enum-known-c t c = search needs
 
 row-change-enum-told : (t : ℕ) → row-change-lts.Need-enum-told (
+  keys-of-reads.Asked,
+  keys-of-reads.Learnt,
   admits-reads.Asked,
   admits-reads.Learnt,
   write-tallied-reads.Asked,
@@ -332,6 +401,8 @@ row-change-enum-told : (t : ℕ) → row-change-lts.Need-enum-told (
 row-change-enum-told t c = search needs
 
 row-change-write-tallied-requires : (t : ℕ) → row-change-lts.Need-write-tallied-requires (
+  keys-of-reads.Asked,
+  keys-of-reads.Learnt,
   admits-reads.Asked,
   admits-reads.Learnt,
   write-tallied-reads.Asked,
@@ -340,12 +411,15 @@ row-change-write-tallied-requires : (t : ℕ) → row-change-lts.Need-write-tall
   key-walk.Post,
 ) (row-change-at t) row-change.Post
 row-change-write-tallied-requires t c κs =
-    let s = c .before .before .before .before .before .before .before .before in
-    let if1 = c .before .before .before .before .before .before .if1 in
+    let s = c .before .before .before .before .before .before .before .before .before in
+    let if1 = c .before .before .before .before .before .before .before .if1 in
+    let keys-of = c .before .before .before .before .before .before .keys-of in
     let admits = c .before .before .before .before .admits in
-    (s .pre .1, law.change-room _ _ _ _ _ (s .args .left) (if1 .left) _ (admits .ensures) (c .before .before .enum-told .given .1))
+    (s .pre .1, (keys-of .ensures .whole, law.change-room _ _ _ _ _ (s .args .left) (if1 .left) _ (admits .ensures) (c .before .before .enum-told .given .1)))
 
 row-change-sub-key-walk : (t : ℕ) → row-change-lts.Need-sub-key-walk (
+  keys-of-reads.Asked,
+  keys-of-reads.Learnt,
   admits-reads.Asked,
   admits-reads.Learnt,
   write-tallied-reads.Asked,
@@ -356,6 +430,8 @@ row-change-sub-key-walk : (t : ℕ) → row-change-lts.Need-sub-key-walk (
 row-change-sub-key-walk t c = search needs
 
 row-change-key-walk-requires : (t : ℕ) → row-change-lts.Need-key-walk-requires (
+  keys-of-reads.Asked,
+  keys-of-reads.Learnt,
   admits-reads.Asked,
   admits-reads.Learnt,
   write-tallied-reads.Asked,
@@ -365,9 +441,13 @@ row-change-key-walk-requires : (t : ℕ) → row-change-lts.Need-key-walk-requir
 ) (row-change-at t) row-change.Post
 row-change-key-walk-requires t c κs =
     let write-tallied = c .before .before .before .write-tallied in
-    (search needs, tallied-after (c .before .before .before .before .before .before .before .before .before .before .before .before .pre .1 .tallied) (write-tallied .ensures .1 .1))
+    let keys-of = c .before .before .before .before .before .before .before .before .before .before .keys-of in
+    let s = c .before .before .before .before .before .before .before .before .before .before .before .before .before in
+    (omega (arith, s .pre .0, c .before .before .before .before .before .before .before .before .before .before .before .if1 .left), (tallied-after (s .pre .1 .tallied) (write-tallied .ensures .1 .1), keys-of .ensures .whole))
 
 row-change-same-length : (t : ℕ) → row-change-lts.Need-same-length (
+  keys-of-reads.Asked,
+  keys-of-reads.Learnt,
   admits-reads.Asked,
   admits-reads.Learnt,
   write-tallied-reads.Asked,
@@ -378,6 +458,8 @@ row-change-same-length : (t : ℕ) → row-change-lts.Need-same-length (
 row-change-same-length t c = search needs
 
 row-change-returns-2 : (t : ℕ) → row-change-lts.Need-returns-2 (
+  keys-of-reads.Asked,
+  keys-of-reads.Learnt,
   admits-reads.Asked,
   admits-reads.Learnt,
   write-tallied-reads.Asked,
@@ -386,11 +468,13 @@ row-change-returns-2 : (t : ℕ) → row-change-lts.Need-returns-2 (
   key-walk.Post,
 ) (row-change-at t) row-change.Post
 row-change-returns-2 t c =
-    let if1 = c .before .before .before .before .before .if1 in
+    let if1 = c .before .before .before .before .before .before .if1 in
     let admits = c .before .before .before .admits in
-    (law.change-refused _ _ _ _ _ _ (if1 .left) _ (admits .ensures) (c .before .c .given .1), follows-refl (c .before .before .before .before .before .before .before .pre .1 .tallied .ready .fit))
+    (law.change-refused _ _ _ _ _ _ (if1 .left) _ (admits .ensures) (c .before .c .given .1), follows-refl (c .before .before .before .before .before .before .before .before .pre .1 .tallied .ready .fit))
 
 row-change-same-length-2 : (t : ℕ) → row-change-lts.Need-same-length-2 (
+  keys-of-reads.Asked,
+  keys-of-reads.Learnt,
   admits-reads.Asked,
   admits-reads.Learnt,
   write-tallied-reads.Asked,
@@ -401,6 +485,8 @@ row-change-same-length-2 : (t : ℕ) → row-change-lts.Need-same-length-2 (
 row-change-same-length-2 t c = search needs
 
 row-change-returns-3 : (t : ℕ) → row-change-lts.Need-returns-3 (
+  keys-of-reads.Asked,
+  keys-of-reads.Learnt,
   admits-reads.Asked,
   admits-reads.Learnt,
   write-tallied-reads.Asked,
@@ -409,12 +495,12 @@ row-change-returns-3 : (t : ℕ) → row-change-lts.Need-returns-3 (
   key-walk.Post,
 ) (row-change-at t) row-change.Post
 row-change-returns-3 t c =
-    let if1 = c .before .before .before .before .before .before .before .before .before .before .before .before .if1 in
+    let if1 = c .before .before .before .before .before .before .before .before .before .before .before .before .before .if1 in
     let admits = c .before .before .before .before .before .before .before .before .before .before .admits in
     let enum-told = c .before .before .before .before .before .before .before .before .enum-told in
     let write-tallied = c .before .before .before .before .before .write-tallied in
     let key-walk = c .before .key-walk in
-    let s = c .before .before .before .before .before .before .before .before .before .before .before .before .before .before in
+    let s = c .before .before .before .before .before .before .before .before .before .before .before .before .before .before .before in
     let a = s .args in
     let sc = schemaOf (a .schema .now) in (
       key-walk .ensures .0
@@ -753,6 +839,8 @@ row-walk-returns-3 t c = let l = c .before .loop in (sym (l .inv .1 .1 .1 ∙ la
 pub +key-turn+key-walk+row-change+row-turn+row-walk-spec : {M : Type 1} → statement M
 +key-turn+key-walk+row-change+row-turn+row-walk-spec =
     close μ-key-turn μ-key-walk μ-row-change μ-row-turn μ-row-walk (λ t. key-turn-lts.spec (
+      bit-of-reads.Asked,
+      bit-of-reads.Learnt,
       fires-reads.Asked,
       fires-reads.Learnt,
       followers-of-reads.Asked,
@@ -762,12 +850,14 @@ pub +key-turn+key-walk+row-change+row-turn+row-walk-spec : {M : Type 1} → stat
     )
     (key-turn-at t)
     key-turn.Post
-    (key-turn-fires-requires t)
+    (key-turn-bit-of-requires t)
     (key-turn-returns t)
+    (key-turn-fires-requires t)
+    (key-turn-returns-2 t)
     (key-turn-followers-of-requires t)
     (key-turn-row-walk-requires t)
     (key-turn-same-length t)
-    (key-turn-returns-2 t))
+    (key-turn-returns-3 t))
     (λ t. key-walk-lts.spec (
       key-count-reads.Asked,
       key-count-reads.Learnt,
@@ -791,6 +881,8 @@ pub +key-turn+key-walk+row-change+row-turn+row-walk-spec : {M : Type 1} → stat
     (key-walk-same-length-2 t)
     (key-walk-returns-2 t))
     (λ t. row-change-lts.spec (
+      keys-of-reads.Asked,
+      keys-of-reads.Learnt,
       admits-reads.Asked,
       admits-reads.Learnt,
       write-tallied-reads.Asked,
@@ -801,6 +893,7 @@ pub +key-turn+key-walk+row-change+row-turn+row-walk-spec : {M : Type 1} → stat
     (row-change-at t)
     row-change.Post
     (row-change-returns t)
+    (row-change-keys-of-requires t)
     (row-change-admits-requires t)
     (row-change-enum-known-c t)
     (row-change-enum-told t)

@@ -19,7 +19,7 @@ returns c =
     let s = c .before .before .before .before in
     let columns = s .pre .1 .0 in
     let same = sym (same-width (s .args .schema .now) (columns .accepted) (s .args .k) (columns .key)) in
-    orphan-half _ (columns .child-is) _ _ (c .before .before .image-full-key .ensures) same (c .before .if1 .taken) (c .is-half-due .ensures)
+    orphan-half _ (columns .child-is) _ (columns .whole) _ (c .before .before .image-full-key .ensures) same (c .before .if1 .taken) (c .is-half-due .ensures)
 
 is-served-requires : tie.Need-is-served-requires
 is-served-requires c κs =
@@ -27,7 +27,9 @@ is-served-requires c κs =
     ((s .pre .0, sym (c .before .image-full-key .ensures) ∙ not-false _ (c .if1 .left)), s .pre .1)
 
 returns-2 : tie.Need-returns-2
-returns-2 c = orphan-full _ (c .before .before .before .before .pre .1 .0 .child-is) _ _ (c .before .before .image-full-key .ensures) (c .is-served .ensures) (c .before .if1 .left)
+returns-2 c =
+    let columns = c .before .before .before .before .pre .1 .0 in
+    orphan-full _ (columns .child-is) _ (columns .whole) _ (c .before .before .image-full-key .ensures) (c .is-served .ensures) (c .before .if1 .left)
 
 pub is-orphan-among-spec : {M : Type 1} → statement M
 is-orphan-among-spec = tie.close (tie.spec image-full-key-requires is-half-due-requires returns is-served-requires returns-2)

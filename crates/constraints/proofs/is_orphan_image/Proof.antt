@@ -4,7 +4,7 @@ use borrow.Author.Needs.{needs}
 use borrow.Author.Tests.{not-false}
 use Rattle.rows.specs.Standing.{RowsOf}
 use Rattle.schema.proofs.FieldLaws.{same-width}
-use Rattle.rows.proofs.TableLaws.{child-wide}
+use Rattle.rows.proofs.TableLaws.{child-wide, parent-there}
 use Rattle.constraints.proofs.ServedLaws.{orphan-half, orphan-full}
 use Rattle.constraints.proofs.is_orphan_image.Statement.{statement}
 use Rattle.constraints.proofs.is_orphan_image.Tie as tie
@@ -22,25 +22,27 @@ returns c =
     let s = c .before .before .before .before in
     let columns = s .pre .1 in
     let same = sym (same-width (s .args .schema .now) (columns .accepted) (s .args .k) (columns .key)) in
-    orphan-half _ (columns .child-is) _ _ (c .before .before .image-full-key .ensures) same (c .before .if1 .taken) (c .is-half-due .ensures)
+    orphan-half _ (columns .child-is) _ (columns .whole) _ (c .before .before .image-full-key .ensures) same (c .before .if1 .taken) (c .is-half-due .ensures)
 
 parent-requires : tie.Need-parent-requires
 parent-requires c κs = search needs
 
 rows-of-requires : tie.Need-rows-of-requires
-rows-of-requires c κs = search needs
+rows-of-requires c κs =
+    let s = c .before .before .before .before in
+    (s .pre .1 .accepted, parent-there _ _ _ _ _ (s .pre .1) (c .parent .ensures))
 
 is-served-requires : tie.Need-is-served-requires
 is-served-requires c κs =
     let s = c .before .before .before .before .before in
     let parents = c .rows-of in
     let full = sym (c .before .before .before .image-full-key .ensures) ∙ not-false _ (c .before .before .if1 .left) in
-    ((s .pre .0, full), (s .pre .1, subst (λ (t : ℕ). RowsOf (s .args .schema .now) t (parents .result)) (c .before .parent .ensures .0) (parents .ensures)))
+    ((s .pre .0, full), (s .pre .1, subst (λ (t : ℕ). RowsOf (s .args .schema .now) t (parents .result)) (c .before .parent .ensures) (parents .ensures)))
 
 returns-2 : tie.Need-returns-2
 returns-2 c =
     let s = c .before .before .before .before .before .before in
-    orphan-full _ (s .pre .1 .child-is) _ _ (c .before .before .before .before .image-full-key .ensures) (c .is-served .ensures) (c .before .before .before .if1 .left)
+    orphan-full _ (s .pre .1 .child-is) _ (s .pre .1 .whole) _ (c .before .before .before .before .image-full-key .ensures) (c .is-served .ensures) (c .before .before .before .if1 .left)
 
 pub is-orphan-image-spec : {M : Type 1} → statement M
 is-orphan-image-spec = tie.close (tie.spec image-full-key-requires is-half-due-requires returns parent-requires rows-of-requires is-served-requires returns-2)

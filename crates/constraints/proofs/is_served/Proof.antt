@@ -15,7 +15,7 @@ any-with-key-requires c κs =
     let s = c .before .before in
     let b = s .args .schema .now in
     let columns = s .pre .1 .0 in
-    let there = parent-table b (columns .accepted) (s .args .k) (columns .key) in
+    let there = parent-table b (columns .accepted) (s .args .k) (columns .key) (columns .whole) in
     let stands = standing b (s .args .area .now) (s .pre .0 .0) _ there (s .args .parents) (s .pre .1 .1) in
     (stands, sought-ready (c .sought-key .ensures) (some-columns _ _ _ _ _ columns) (parent-in _ _ _ _ _ columns refl (s .pre .1 .1)))
 
@@ -25,7 +25,7 @@ returns c =
     let b = s .args .schema .now in
     let K = keyOf (schemaOf b) (s .args .k) in
     let columns = s .pre .1 .0 in
-    let rows = rows-are b (s .args .area .now) (s .pre .0 .0) (K .parent) (parent-table b (columns .accepted) (s .args .k) (columns .key)) (s .args .parents) (s .pre .1 .1) in
+    let rows = rows-are b (s .args .area .now) (s .pre .0 .0) (K .parent) (parent-table b (columns .accepted) (s .args .k) (columns .key) (columns .whole)) (s .args .parents) (s .pre .1 .1) in
     c .any-with-key .ensures ∙ any-sought (c .before .sought-key .ensures) _ ∙ any-serving K (columns .child-is) _ (columns .parent-is) rows
 
 pub is-served-spec : {M : Type 1} → statement M

@@ -12,7 +12,7 @@ use Rattle.rules.specs.Change.{uniqueBroken}
 use Rattle.bridge.specs.Fit.{workOf}
 use Rattle.rows.specs.Standing.{rowsIn}
 use Rattle.rows.specs.KeyColumns.{maskBroken}
-use Rattle.rows.proofs.LoopLaws.{any-none, any-hit, any-miss}
+use Rattle.bridge.proofs.LoopLaws.{any-none, any-hit, any-miss}
 use Rattle.rows.proofs.MaskLaws.{unique-inside, masks-four, unique-masks}
 use Rattle.rows.proofs.TableLaws.{rows-are, standing}
 use Rattle.constraints.proofs.unique_broken.Statement.{statement}

@@ -13,32 +13,24 @@ enum-told c = search needs
 enum-told-2 : tie.Need-enum-told-2
 enum-told-2 c = search needs
 
-enum-told-3 : tie.Need-enum-told-3
-enum-told-3 c = search needs
-
 call-area-requires : tie.Need-call-area-requires
-call-area-requires c κs = sym (c .before .before .before .check-schema .ensures) ∙ c .before .enum-told3 .given .1
+call-area-requires c κs = sym (c .before .before .before .check-schema .ensures) ∙ c .before .enum-told2 .given .1
 
 returns : tie.Need-returns
 returns c =
     let s = c .before .before .before .before in
     law.call-malformed (s .args .schema .now) (s .args .area .now) _ (c .before .before .check-schema .ensures) (s .args .call .now) (c .enum-told .given .1)
 
-returns-2 : tie.Need-returns-2
-returns-2 c =
-    let s = c .before .before .before .before in
-    law.call-unmatched (s .args .schema .now) (s .args .area .now) _ (c .before .before .check-schema .ensures) (s .args .call .now) (c .enum-told2 .given .1)
-
 same-length : tie.Need-same-length
 same-length c = search needs
 
-returns-3 : tie.Need-returns-3
-returns-3 c =
+returns-2 : tie.Need-returns-2
+returns-2 c =
     let s = c .before .before .before .before .before .before .before in
     let check-schema = c .before .before .before .before .before .check-schema in
-    let enum-told3 = c .before .before .before .enum-told3 in
+    let enum-told2 = c .before .before .before .enum-told2 in
     c .before .call-area .ensures
-    ∙ law.call-under (s .args .schema .now) (s .args .area .now) _ (check-schema .ensures) (s .args .call .now) (enum-told3 .given .1)
+    ∙ law.call-under (s .args .schema .now) (s .args .area .now) _ (check-schema .ensures) (s .args .call .now) (enum-told2 .given .1)
 
 pub call-spec : {M : Type 1} → statement M
 call-spec =
@@ -47,9 +39,7 @@ call-spec =
     check-schema-requires
     enum-told
     enum-told-2
-    enum-told-3
     call-area-requires
     returns
-    returns-2
     same-length
-    returns-3)
+    returns-2)

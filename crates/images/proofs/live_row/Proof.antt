@@ -8,6 +8,7 @@ use lib.ListN.{length, take, drop, length-set}
 use Rattle.words.proofs.Signed.{back}
 use native.Mathlib.Nat.{mod-lt}
 use Rattle.rules.specs.Rows.{held}
+use Rattle.images.proofs.MaskLaws.{power-within}
 use Rattle.images.proofs.ImageLaws.{held-start, held-step, held-end}
 use Rattle.images.proofs.live_row.Statement.{statement}
 use Rattle.images.proofs.live_row.Tie as tie
@@ -25,17 +26,19 @@ power-requires : tie.Need-power-requires Inv-loop μ-loop
 power-requires c κs = search needs
 
 rem-word-of : tie.Need-rem-word-of Inv-loop μ-loop
-rem-word-of c = search needs
+rem-word-of c = omega (arith, power-within _ (c .before .pre) (c .power .ensures) .low)
 
 add-word-of : tie.Need-add-word-of Inv-loop μ-loop
 add-word-of c =
-    let e : c .before .args .m % c .power .result < c .power .result = mod-lt _ (c .power .ensures .1 .low) in
-    omega arith
+    let p = power-within _ (c .before .pre) (c .power .ensures) in
+    let e : c .before .args .m % c .power .result < c .power .result = mod-lt _ (p .low) in
+    omega (arith, p .high)
 
 word-of-requires : tie.Need-word-of-requires Inv-loop μ-loop
 word-of-requires c κs =
-    let e : c .before .args .m % c .power .result < c .power .result = mod-lt _ (c .power .ensures .1 .low) in
-    omega arith
+    let p = power-within _ (c .before .pre) (c .power .ensures) in
+    let e : c .before .args .m % c .power .result < c .power .result = mod-lt _ (p .low) in
+    omega (arith, p .high)
 
 array-set-from-x : tie.Need-array-set-from-x Inv-loop μ-loop
 array-set-from-x c = search needs
@@ -87,7 +90,7 @@ returns : tie.Need-returns Inv-loop μ-loop
 returns c =
     let l = c .before .loop in
     let a = c .before .before .before .before .args in
-    let e = back _ (c .before .before .word-of .ok) ∙ c .before .before .word-of .ensures ∙ ap (λ (p : ℕ). pos (256 + a .m % p)) (c .before .before .before .power .ensures .0) in
+    let e = back _ (c .before .before .word-of .ok) ∙ c .before .before .word-of .ensures ∙ ap (λ (p : ℕ). pos (256 + a .m % p)) (c .before .before .before .power .ensures) in
     sym
     (held-start (a .columns) (a .m) (a .image) (search needs) e
     ∙ l .inv .1 .1

@@ -1,6 +1,6 @@
 use mathlib.Core.Path.{sym, _∙_}
 use borrow.Author.Needs.{needs}
-use Rattle.orphan_plan.proofs.PlanLaws.{malformed, unmatched}
+use Rattle.orphan_plan.proofs.PlanLaws.{malformed}
 use Rattle.orphan_plan.proofs.plan_list.Statement.{statement}
 use Rattle.orphan_plan.proofs.plan_list.Tie as tie
 
@@ -16,14 +16,8 @@ refused-requires c κs = search needs
 enum-told-2 : tie.Need-enum-told-2
 enum-told-2 c = search needs
 
-refused-requires-2 : tie.Need-refused-requires-2
-refused-requires-2 c κs = search needs
-
-enum-told-3 : tie.Need-enum-told-3
-enum-told-3 c = search needs
-
 plan-area-requires : tie.Need-plan-area-requires
-plan-area-requires c κs = sym (c .before .before .check-schema .ensures) ∙ c .enum-told3 .given .1
+plan-area-requires c κs = sym (c .before .before .check-schema .ensures) ∙ c .enum-told2 .given .1
 
 returns : tie.Need-returns
 returns c =
@@ -31,12 +25,7 @@ returns c =
     malformed (s .args .schema .now) (s .args .area .now) (s .args .room) (c .refused .ensures) (sym (c .before .before .before .check-schema .ensures) ∙ c .before .enum-told .given .1)
 
 returns-2 : tie.Need-returns-2
-returns-2 c =
-    let s = c .before .before .before .before .before in
-    unmatched (s .args .schema .now) (s .args .area .now) (s .args .room) (c .refused2 .ensures) (sym (c .before .before .before .check-schema .ensures) ∙ c .before .enum-told2 .given .1)
-
-returns-3 : tie.Need-returns-3
-returns-3 c = search needs
+returns-2 c = search needs
 
 pub plan-list-spec : {M : Type 1} → statement M
 plan-list-spec =
@@ -46,9 +35,6 @@ plan-list-spec =
     enum-told
     refused-requires
     enum-told-2
-    refused-requires-2
-    enum-told-3
     plan-area-requires
     returns
-    returns-2
-    returns-3)
+    returns-2)

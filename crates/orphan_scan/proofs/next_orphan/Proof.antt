@@ -6,8 +6,8 @@ use borrow.Author.Needs.{needs}
 use lib.ListN.{length}
 use Rattle.schema.specs.Fields.{schemaOf}
 use Rattle.schema.proofs.SchemaLaws.{accepted-valid}
-use Rattle.orphans.specs.KeyRows.{KeyRowsOf}
-use Rattle.orphans.proofs.OrphanLaws.{children-few}
+use Rattle.orphans.specs.KeyRows.{Searched}
+use Rattle.orphans.proofs.OrphanLaws.{searched-few}
 use Rattle.orphan_scan.specs.Scan.{orphansLeft}
 use Rattle.orphan_scan.proofs.ScanLaws.{key-more, left-next}
 use Rattle.orphan_scan.proofs.next_orphan.Statement.{statement}
@@ -15,7 +15,7 @@ use Rattle.orphan_scan.proofs.next_orphan.Tie as tie
 
 abbrev Inv-loop : tie.InvT-loop
 Inv-loop schema area k₀ key₀ j₀ k key j =
-    KeyRowsOf schema k key
+    Searched schema k key
     × ((orphansLeft schema area k₀ j₀ ≡ orphansLeft schema area k j) × (j < key .children .count → orphansLeft schema area k j ≡ record { key = k; row = j } ∷ orphansLeft schema area k (j + 1)))
 
 abbrev μ-loop : tie.MeasureT-loop
@@ -28,10 +28,12 @@ loop-holds : tie.Need-loop-holds Inv-loop μ-loop
 loop-holds c = (c .before .before .before .pre .key-is, (refl, c .next-row .ensures .heads))
 
 add-k : tie.Need-add-k Inv-loop μ-loop
-add-k c = omega (arith, c .before .before .loop .inv .0 .columns .key, accepted-valid _ (c .before .before .loop .inv .0 .columns .accepted) .few)
+add-k c =
+    let s = c .before .before .before .before .before .before in
+    omega (arith, c .before .before .loop .inv .0 .key, accepted-valid _ (s .pre .ready .accepted) .few)
 
-key-rows-requires : tie.Need-key-rows-requires Inv-loop μ-loop
-key-rows-requires c κs =
+searched-rows-requires : tie.Need-searched-rows-requires Inv-loop μ-loop
+searched-rows-requires c κs =
     let loop = c .before .before .loop in
     let next-row = c .before .before .before .next-row in
     let s = c .before .before .before .before .before .before in
@@ -41,20 +43,20 @@ next-row-requires-2 : tie.Need-next-row-requires-2 Inv-loop μ-loop
 next-row-requires-2 c κs = search needs
 
 loop-less : tie.Need-loop-less Inv-loop μ-loop
-loop-less c = omega (arith, c .before .key-rows .ensures .columns .key)
+loop-less c = omega (arith, c .before .searched-rows .ensures .key)
 
 loop-again : tie.Need-loop-again Inv-loop μ-loop
 loop-again c =
     let loop = c .before .before .before .before .loop in
-    let key-rows = c .before .key-rows in
+    let searched = c .before .searched-rows in
     let s = c .before .before .before .before .before .before .before .before in
-    let next = left-next _ _ (s .pre .ready) (loop .inv .0) (loop .j) (c .before .before .if1 .taken) (key-rows .ensures .columns .key) in
-    (key-rows .ensures, (loop .inv .1 .0 ∙ next ∙ c .next-row2 .ensures .rest, c .next-row2 .ensures .heads))
+    let next = left-next _ _ (s .pre .ready) (loop .inv .0) (loop .j) (c .before .before .if1 .taken) (searched .ensures .key) in
+    (searched .ensures, (loop .inv .1 .0 ∙ next ∙ c .next-row2 .ensures .rest, c .next-row2 .ensures .heads))
 
 add-t9 : tie.Need-add-t9 Inv-loop μ-loop
 add-t9 c =
     let s = c .before .before .before .before .before .before in
-    omega (arith, c .if1 .left, children-few _ _ _ (s .pre .ready) _ (c .before .before .loop .inv .0))
+    omega (arith, c .if1 .left, searched-few _ _ _ _ (c .before .before .loop .inv .0) (s .pre .ready))
 
 returns : tie.Need-returns Inv-loop μ-loop
 returns c =
@@ -71,7 +73,7 @@ next-orphan-spec =
     next-row-requires
     loop-holds
     add-k
-    key-rows-requires
+    searched-rows-requires
     next-row-requires-2
     loop-less
     loop-again

@@ -2,6 +2,7 @@ use mathlib.Core.Path.{_≡_, refl, _∙_}
 use Prim.Native.Nat.{_-_}
 use native.Mathlib.Omega.{arith}
 use borrow.Author.Needs.{needs}
+use Rattle.orphans.proofs.OrphanLaws.{row-whole}
 use Rattle.orphan_scan.specs.Scan.{orphansLeft}
 use Rattle.orphan_scan.proofs.ScanLaws.{left-hit, left-miss}
 use Rattle.orphan_scan.proofs.next_row.Statement.{statement}
@@ -17,7 +18,9 @@ loop-holds : tie.Need-loop-holds Inv-loop μ-loop
 loop-holds c = refl
 
 is-orphan-requires : tie.Need-is-orphan-requires Inv-loop μ-loop
-is-orphan-requires c κs = search needs
+is-orphan-requires c κs =
+    let s = c .before .before .before in
+    (s .pre .0, (row-whole _ (s .args .area .now) _ _ (s .pre .1) (c .before .loop .j) (c .loop-test .taken), c .loop-test .taken))
 
 returns : tie.Need-returns Inv-loop μ-loop
 returns c =

@@ -12,12 +12,12 @@ nowhere-requires c κs = search needs
 returns : tie.Need-returns
 returns c = λ l. absurd (omega (arith, l, c .before .before .key-count .ensures .0, c .before .if1 .taken))
 
-key-rows-requires : tie.Need-key-rows-requires
-key-rows-requires c κs = search needs
+searched-rows-requires : tie.Need-searched-rows-requires
+searched-rows-requires c κs = search needs
 
 returns-2 : tie.Need-returns-2
 returns-2 c = search needs
 
 pub start-spec : {M : Type 1} → statement M
 start-spec =
-    tie.close (tie.spec key-count-requires nowhere-requires returns key-rows-requires returns-2)
+    tie.close (tie.spec key-count-requires nowhere-requires returns searched-rows-requires returns-2)

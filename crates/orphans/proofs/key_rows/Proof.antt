@@ -2,7 +2,7 @@ use mathlib.Core.Path.{subst}
 use Prim.Native.Nat.{ℕ}
 use borrow.Author.Needs.{needs}
 use Rattle.rows.specs.Standing.{RowsOf}
-use Rattle.rows.proofs.TableLaws.{key-columns}
+use Rattle.rows.proofs.TableLaws.{parent-table, key-columns}
 use Rattle.orphans.proofs.key_rows.Statement.{statement}
 use Rattle.orphans.proofs.key_rows.Tie as tie
 
@@ -16,7 +16,9 @@ parent-requires : tie.Need-parent-requires
 parent-requires c κs = search needs
 
 rows-of-requires-2 : tie.Need-rows-of-requires-2
-rows-of-requires-2 c κs = search needs
+rows-of-requires-2 c κs =
+    let s = c .before .before .before .before in
+    (s .pre .0, rw (c .parent .ensures) (parent-table (s .args .schema .now) (s .pre .0) (s .args .k) (s .pre .1 .0) (s .pre .1 .1)))
 
 width-requires : tie.Need-width-requires
 width-requires c κs = search needs
@@ -39,9 +41,9 @@ returns c =
     let b = s .args .schema .now in
     let width = c .before .before .width .ensures .0 in
     record {
-      columns = key-columns b (s .pre .0) (s .args .k) (s .pre .1) width (ps .result) (ps .ensures) (cs .result) (cs .ensures);
+      columns = key-columns b (s .pre .0) (s .args .k) (s .pre .1 .0) width (s .pre .1 .1) (ps .result) (ps .ensures) (cs .result) (cs .ensures);
       children = subst (λ (t : ℕ). RowsOf b t (children .result)) (child .ensures .0) (children .ensures);
-      parents = subst (λ (t : ℕ). RowsOf b t (parents .result)) (parent .ensures .0) (parents .ensures);
+      parents = subst (λ (t : ℕ). RowsOf b t (parents .result)) (parent .ensures) (parents .ensures);
     }
 
 pub key-rows-spec : {M : Type 1} → statement M

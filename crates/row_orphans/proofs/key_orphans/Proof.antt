@@ -1,25 +1,28 @@
-use mathlib.Core.Path.{sym, _∙_, ap₂}
+use mathlib.Core.Path.{ap₂}
 use Prim.Native.Nat.{_+_}
 use native.Mathlib.Omega.{arith}
-use borrow.Author.Tests.{not-true}
+use Rattle.schema.proofs.SchemaLaws.{accepted-valid}
 use Rattle.schema.specs.Records.{keyOf}
 use Rattle.schema.specs.Fields.{schemaOf}
 use Rattle.bridge.specs.Fit.{workOf}
 use Rattle.rows.proofs.TableLaws.{key-columns}
+use Rattle.table_keys.proofs.TouchLaws.{in-whole, not-whole}
 use Rattle.row_orphans.specs.RowOrphans.{rowOrphans}
-use Rattle.row_orphans.proofs.CountLaws.{untouched-none}
+use Rattle.row_orphans.proofs.CountLaws.{others-none}
 use borrow.Author.Needs.{needs}
 use Rattle.row_orphans.proofs.key_orphans.Statement.{statement}
 use Rattle.row_orphans.proofs.key_orphans.Tie as tie
 
-touches-requires : tie.Need-touches-requires
-touches-requires c κs = search needs
+bit-of-requires : tie.Need-bit-of-requires
+bit-of-requires c κs = omega (arith, accepted-valid _ (c .before .pre .0 .ready .accepted) .few, c .before .pre .1 .1)
 
 returns : tie.Need-returns
 returns c =
-    let a = c .before .before .before .args in
+    let s = c .before .before .before in
+    let a = s .args in
     let k = keyOf (schemaOf (a .schema .now)) (a .k) in
-    (untouched-none (a .t) (a .r) (a .x) (a .y) (workOf (schemaOf (a .schema .now)) (a .area .now) .tabs) k (sym (c .before .touches .ensures) ∙ not-true _ (c .if1 .taken)), omega arith)
+    let miss = not-whole (s .pre .1 .0) (a .k) (s .pre .1 .1) (c .before .bit-of .ensures) (c .if1 .taken) in
+    (others-none (a .t) (a .r) (a .x) (a .y) (workOf (schemaOf (a .schema .now)) (a .area .now) .tabs) k miss, omega arith)
 
 width-requires : tie.Need-width-requires
 width-requires c κs = search needs
@@ -28,18 +31,20 @@ child-columns-requires : tie.Need-child-columns-requires
 child-columns-requires c κs = search needs
 
 parent-columns-requires : tie.Need-parent-columns-requires
-parent-columns-requires c κs = search needs
+parent-columns-requires c κs =
+    let s = c .before .before .before .before .before in
+    (s .pre .0 .ready .accepted, (s .pre .1 .1, in-whole (s .pre .1 .0) (s .args .k) (s .pre .1 .1) (c .before .before .before .bit-of .ensures) (c .before .before .if1 .left)))
 
 own-orphan-requires : tie.Need-own-orphan-requires
 own-orphan-requires c κs =
     let s = c .before .before .before .before .before .before in
-    let read = key-columns (s .args .schema .now) (s .pre .0 .ready .accepted) (s .args .k) (s .pre .1) (c .before .before .width .ensures .0) in
+    let read = key-columns (s .args .schema .now) (s .pre .0 .ready .accepted) (s .args .k) (s .pre .1 .1) (c .before .before .width .ensures .0) (in-whole (s .pre .1 .0) (s .args .k) (s .pre .1 .1) (c .before .before .before .before .bit-of .ensures) (c .before .before .before .if1 .left)) in
     (s .pre .0 .ready, read (c .parent-columns .result) (c .parent-columns .ensures) (c .before .child-columns .result) (c .before .child-columns .ensures))
 
 stranded-rows-requires : tie.Need-stranded-rows-requires
 stranded-rows-requires c κs =
     let s = c .before .before .before .before .before .before .before in
-    let read = key-columns (s .args .schema .now) (s .pre .0 .ready .accepted) (s .args .k) (s .pre .1) (c .before .before .before .width .ensures .0) in
+    let read = key-columns (s .args .schema .now) (s .pre .0 .ready .accepted) (s .args .k) (s .pre .1 .1) (c .before .before .before .width .ensures .0) (in-whole (s .pre .1 .0) (s .args .k) (s .pre .1 .1) (c .before .before .before .before .before .bit-of .ensures) (c .before .before .before .before .if1 .left)) in
     (s .pre .0, read (c .before .parent-columns .result) (c .before .parent-columns .ensures) (c .before .before .child-columns .result) (c .before .before .child-columns .ensures))
 
 add-result : tie.Need-add-result
@@ -56,7 +61,7 @@ pub key-orphans-spec : {M : Type 1} → statement M
 key-orphans-spec =
     tie.close
     (tie.spec
-    touches-requires
+    bit-of-requires
     returns
     width-requires
     child-columns-requires

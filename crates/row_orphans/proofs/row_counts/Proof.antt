@@ -21,10 +21,10 @@ use Rattle.row_orphans.proofs.row_counts.Statement.{statement}
 use Rattle.row_orphans.proofs.row_counts.Tie as tie
 
 abbrev Inv-loop : tie.InvT-loop
-Inv-loop schema area t r x y counts₀ n k₀ counts k = (k ≤ n) × ((length counts ≡ 32) × (counts ≡ sets (replicate 32 (pos 0)) 0 (take k (rowList (schemaOf schema) t r x y (workOf (schemaOf schema) area .tabs)))))
+Inv-loop schema area whole t r x y counts₀ n k₀ counts k = (k ≤ n) × ((length counts ≡ 32) × (counts ≡ sets (replicate 32 (pos 0)) 0 (take k (rowList (schemaOf schema) t r x y (workOf (schemaOf schema) area .tabs)))))
 
 abbrev μ-loop : tie.MeasureT-loop
-μ-loop schema area t r x y counts₀ n k₀ counts k = n - k
+μ-loop schema area whole t r x y counts₀ n k₀ counts k = n - k
 
 key-count-requires : tie.Need-key-count-requires Inv-loop μ-loop
 key-count-requires c κs = search needs
@@ -33,7 +33,9 @@ loop-holds : tie.Need-loop-holds Inv-loop μ-loop
 loop-holds c = search needs
 
 key-orphans-requires : tie.Need-key-orphans-requires Inv-loop μ-loop
-key-orphans-requires c κs = search needs
+key-orphans-requires c κs =
+    let s = c .before .before .before .before in
+    (s .pre .0, (s .pre .1, omega (arith, c .before .before .key-count .ensures .0)))
 
 word-of-requires : tie.Need-word-of-requires Inv-loop μ-loop
 word-of-requires c κs = search needs

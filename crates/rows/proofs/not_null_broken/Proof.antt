@@ -11,7 +11,7 @@ use Rattle.schema.specs.Fields.{schemaOf}
 use Rattle.rules.specs.Values.{natOf}
 use Rattle.rules.specs.Lists.{any, upFrom}
 use Rattle.rows.proofs.CellLaws.{broken-is}
-use Rattle.rows.proofs.LoopLaws.{any-none, any-hit, any-miss, up-length, up-get}
+use Rattle.bridge.proofs.LoopLaws.{any-none, any-hit, any-miss, up-length, up-get}
 use Rattle.rows.proofs.not_null_broken.Statement.{statement}
 use Rattle.rows.proofs.not_null_broken.Tie as tie
 

@@ -6,7 +6,7 @@ use lib.ListN.{length, getD, take, drop}
 use lib.Seq.{length-take-le, getD-take}
 use Rattle.schema.specs.Bytes.{bit}
 use Rattle.rules.specs.Lists.{count}
-use Rattle.rows.proofs.LoopLaws.{count-none, count-more}
+use Rattle.bridge.proofs.LoopLaws.{count-none, count-more}
 use Rattle.rows.proofs.null_columns.Statement.{statement}
 use Rattle.rows.proofs.null_columns.Tie as tie
 

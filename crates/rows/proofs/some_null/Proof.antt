@@ -6,7 +6,7 @@ use lib.ListN.{length, getD, take, drop}
 use lib.Seq.{length-take-le, getD-take}
 use Rattle.schema.specs.Bytes.{bit}
 use Rattle.rules.specs.Lists.{any}
-use Rattle.rows.proofs.LoopLaws.{any-none, any-hit, any-miss}
+use Rattle.bridge.proofs.LoopLaws.{any-none, any-hit, any-miss}
 use Rattle.rows.proofs.some_null.Statement.{statement}
 use Rattle.rows.proofs.some_null.Tie as tie
 

@@ -52,10 +52,10 @@ returns c =
     let s = c .before .before .before .before .before .before .before .before .before .before .before .before .before .before .before .before in
     let w = c .before .before .before .before .before .write-row .ensures in
     let columns = c .before .before .before .before .before .before .before .before .before .before .before .before .columns .ensures .0 in
-    let nine : length (s .args .t6) ≡ 9 = search needs in
-    let cut = cut-is (s .args .t6) nine (c .before .before .before .before .before .before .before .before .before .image-at .ensures) columns in
+    let nine : length (s .args .t7) ≡ 9 = search needs in
+    let cut = cut-is (s .args .t7) nine (c .before .before .before .before .before .before .before .before .before .image-at .ensures) columns in
     let old = c .before .before .before .before .before .before .before .before .before .before .before .before .before .image-of .ensures in
-    (old, (w .1 .0, follows-written (s .args .t6) (s .pre .0) nine (w .1 .0) (w .1 .1) old cut (c .before .before .before .before .before .before .before .row-counts .ensures) (c .before .before .row-counts2 .ensures) (c .moved .ensures)))
+    (old, (w .1 .0, follows-written (s .args .t7) (s .pre .0) nine (w .1 .0) (w .1 .1) old cut (c .before .before .before .before .before .before .before .row-counts .ensures) (c .before .before .row-counts2 .ensures) (c .moved .ensures)))
 
 pub write-tallied-spec : {M : Type 1} → statement M
 write-tallied-spec =

@@ -1,0 +1,103 @@
+// The foreign keys that touch a table, whole and broken ones apart, and whether a row change uses a broken one.
+ghost use mathlib.Core.Path.{_≡_};
+ghost use Prim.Native.Nat.{_<_, _^_};
+ghost use lib.Dec.{eqb};
+ghost use lib.ListN.{length};
+ghost use Rattle.schema.specs.Records.{keyOf};
+ghost use Rattle.schema.specs.Fields.{schemaOf};
+ghost use Rattle.schema.specs.Check.{checkSchema};
+ghost use Rattle.rules.specs.Lists;
+ghost use Rattle.table_keys.specs.Touched.{touches, wholeAt, brokenAt, brokenUsed, marked, BrokenKeys, KeysOf};
+use schema::SchemaAnswer;
+
+// The foreign keys whose child or parent a table is, as masks of their numbers: those with a parent key, and the broken ones.
+pub struct TableKeys {
+    pub whole: usize,
+    pub broken: usize,
+}
+
+// Whether table t is the child or the parent of foreign key k.
+fn touches(schema: &[u8], k: usize, t: usize) -> bool
+    requires { ⌜ (checkSchema (now schema) ≡ SchemaAnswer.Accepted) × (k < length (schemaOf (now schema) .keys)) ⌝ }
+    ensures { λ x. ⌜ x ≡ touches t (keyOf (schemaOf (now (schema .entry))) k) ⌝ }
+{
+    let child = fields::child(schema, k);
+    let parent = fields::parent(schema, k);
+    child == t || parent == t
+}
+
+// 0 where foreign key k does not touch table t, 1 where it does, 2 where it does and is broken.
+fn touch_of(schema: &[u8], k: usize, t: usize) -> usize
+    requires { ⌜ (checkSchema (now schema) ≡ SchemaAnswer.Accepted) × (k < length (schemaOf (now schema) .keys)) ⌝ }
+    ensures { λ x. ⌜ (eqb x 1 ≡ wholeAt t (keyOf (schemaOf (now (schema .entry))) k)) × (eqb x 2 ≡ brokenAt t (keyOf (schemaOf (now (schema .entry))) k)) ⌝ }
+{
+    if !touches(schema, k, t) {
+        return 0;
+    }
+    if fields::is_broken(schema, k) {
+        return 2;
+    }
+    1
+}
+
+// A mask of numbers below k, with k in it or not.
+fn marked(m: usize, k: usize, b: bool) -> usize
+    requires { ⌜ (k < 32) × (m < 2 ^ k) ⌝ }
+    ensures { λ x. ⌜ x ≡ marked m k b ⌝ }
+{
+    if b {
+        return m + numbers::power(k);
+    }
+    m
+}
+
+// The foreign keys that touch table t.
+pub fn keys_of(schema: &[u8], t: usize) -> TableKeys
+    requires { ⌜ checkSchema (now schema) ≡ SchemaAnswer.Accepted ⌝ }
+    ensures { λ x. ⌜ KeysOf (now (schema .entry)) t x ⌝ }
+{
+    let n = fields::key_count(schema);
+    let mut whole = 0;
+    let mut broken = 0;
+    let mut k = 0;
+    while k < n {
+        let touch = touch_of(schema, k, t);
+        whole = marked(whole, k, touch == 1);
+        broken = marked(broken, k, touch == 2);
+        k += 1;
+    }
+    TableKeys {
+        whole: whole,
+        broken: broken,
+    }
+}
+
+// Whether foreign key k is one of the broken ones, and the change of a row of table t uses it. The row lives after the
+// change or not, and lived before it or not.
+fn is_used(schema: &[u8], t: usize, broken: usize, k: usize, lives: bool, lived: bool) -> bool
+    requires { ⌜ (checkSchema (now schema) ≡ SchemaAnswer.Accepted) × ((k < length (schemaOf (now schema) .keys)) × BrokenKeys (now schema) t broken) ⌝ }
+    ensures { λ x. ⌜ x ≡ brokenUsed lives t lived (keyOf (schemaOf (now (schema .entry))) k) ⌝ }
+{
+    if !numbers::bit_of(k, broken) {
+        return false;
+    }
+    let child = fields::child(schema, k);
+    let parent = fields::parent(schema, k);
+    ((child == t) & lives) | ((parent == t) & lived)
+}
+
+// Whether such a change uses one of the broken keys that touch the table.
+pub fn uses_broken(schema: &[u8], t: usize, broken: usize, lives: bool, lived: bool) -> bool
+    requires { ⌜ (checkSchema (now schema) ≡ SchemaAnswer.Accepted) × BrokenKeys (now schema) t broken ⌝ }
+    ensures { λ x. ⌜ x ≡ Lists.any (brokenUsed lives t lived) (schemaOf (now (schema .entry)) .keys) ⌝ }
+{
+    let n = fields::key_count(schema);
+    let mut k = 0;
+    while k < n {
+        if is_used(schema, t, broken, k, lives, lived) {
+            return true;
+        }
+        k += 1;
+    }
+    false
+}
