@@ -73,7 +73,7 @@ impl fmt::Display for Orphan {
 }
 
 pub trait Engine {
-    /// The code of the check of schema bytes: 0, 1 or 2.
+    /// The code of the check of schema bytes: 0 or 1.
     fn check_schema(&self, schema: &[u8]) -> i64;
     /// How many words the schema's areas have, or 0 where it is refused.
     fn area_words(&self, schema: &[u8]) -> i64;

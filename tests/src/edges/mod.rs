@@ -1,6 +1,7 @@
 //! The edge cases of the paper as a text: each case with its schema and its calls in words, and the
 //! answers of an engine.
 
+mod broken_keys;
 mod limits;
 mod lists;
 mod match_full;
@@ -49,6 +50,7 @@ pub fn all() -> Vec<Case> {
         searches::cases(),
         old_keys::cases(),
         match_full::cases(),
+        broken_keys::cases(),
     ]
     .into_iter()
     .flatten()

@@ -34,7 +34,7 @@ pub fn cases() -> Vec<Case> {
 }
 
 /// Deletes every row whose column has the value.
-fn delete_where(table: usize, column: usize, sought: Value) -> Step {
+pub fn delete_where(table: usize, column: usize, sought: Value) -> Step {
     search(table, column, sought, None)
 }
 

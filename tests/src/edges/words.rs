@@ -39,7 +39,7 @@ fn table_words(table: &Table) -> String {
 
 fn key_words(key: &Key) -> String {
     format!(
-        "table {} {} refers to table {} {}, {}, on delete {}, on update {}{}",
+        "table {} {} refers to table {} {}, {}, on delete {}, on update {}{}{}",
         key.child,
         columns(&key.child_columns),
         key.parent,
@@ -54,7 +54,8 @@ fn key_words(key: &Key) -> String {
         match key.matching {
             Match::Simple => "",
             Match::Full => ", MATCH FULL",
-        }
+        },
+        if key.broken { ", broken" } else { "" }
     )
 }
 

@@ -69,7 +69,7 @@ pub fn leading_to_orphans(r: &mut Random, ground: &Ground, area: &[i64]) -> Vec<
     row_call(1, table, r.edged(0, rows - 1), &new)
 }
 
-fn transaction_call(r: &mut Random, open: i64) -> Vec<i64> {
+pub fn transaction_call(r: &mut Random, open: i64) -> Vec<i64> {
     let suits_none = [4, 4, 5, 5, 5];
     let suits_open = [5, 5, 5, 5, 5, 6, 6, 7, 7, 7, 8, 9, 9];
     let kind = match open {
@@ -113,8 +113,8 @@ pub fn new_row(r: &mut Random, ground: &Ground, area: &Area, table: usize) -> Ro
             continue;
         }
         let (_, parent) = &parents[r.between(0, parents.len() - 1)];
-        for (&column, &from) in key.child_columns.iter().zip(&key.parent_columns) {
-            row[column] = parent[from];
+        for (&column, value) in key.child_columns.iter().zip(key.parent_key(parent)) {
+            row[column] = value;
         }
         if r.once_in(8) {
             let column = r.pick(&key.child_columns);

@@ -1,9 +1,10 @@
 //! Valid schemas on which calls are tried: small, so that keys collide.
 
-use super::half_filled;
+use super::{broken_keys, half_filled};
 use crate::model::schema::Schema;
 use crate::random::Random;
 use crate::schema_bytes::build::SIMPLE;
+use crate::schema_bytes::half_drawn::break_some;
 use crate::schema_bytes::records::{Key, Schema as Records, Table};
 use crate::schema_bytes::valid::{any_valid, four, key, low_bits, parents};
 
@@ -31,6 +32,21 @@ impl Ground {
         vec![0; self.schema.area_words()]
     }
 
+    /// The same with some foreign keys broken, where none was.
+    pub fn half_drawn(mut self, r: &mut Random) -> Ground {
+        break_some(&mut self.records, r);
+        Ground::new(self.records, self.values)
+    }
+
+    /// The same with some foreign keys broken, once in so many schemas.
+    pub fn half_drawn_once_in(self, r: &mut Random, turns: usize) -> Ground {
+        if r.once_in(turns) {
+            self.half_drawn(r)
+        } else {
+            self
+        }
+    }
+
     /// The same with MATCH SIMPLE in every foreign key.
     pub fn of_match_simple(mut self) -> Ground {
         let keys = self.records.keys.iter_mut();
@@ -39,12 +55,21 @@ impl Ground {
     }
 }
 
-/// A schema on which keys collide.
+/// A schema on which keys collide, some of them broken in some schemas.
 pub fn collisions(r: &mut Random) -> Ground {
+    if r.once_in(8) {
+        broken_keys::ground(r)
+    } else {
+        whole_collisions(r)
+    }
+}
+
+/// A schema on which keys collide, none of them broken.
+pub fn whole_collisions(r: &mut Random) -> Ground {
     match r.between(0, 9) {
         0..=2 => tangled(r),
         3..=5 => gathered(r),
-        6 => half_filled::ground(r),
+        6 => half_filled::whole(r),
         _ => small(r),
     }
 }
@@ -251,7 +276,8 @@ fn tangled_key(
     }
 }
 
-/// A valid schema of any size.
+/// A valid schema of any size, some with broken keys.
 pub fn large(r: &mut Random) -> Ground {
-    Ground::new(any_valid(r), vec![0, 1, 2, i64::MIN, i64::MAX])
+    let whole = Ground::new(any_valid(r), vec![0, 1, 2, i64::MIN, i64::MAX]);
+    whole.half_drawn_once_in(r, 3)
 }

@@ -12,9 +12,14 @@ use crate::schema_bytes::build;
 use crate::schema_bytes::records::{Key, Schema as Records, Table};
 use crate::schema_bytes::valid::low_bits;
 
+/// Schemas on which child keys can be half-filled, some with broken keys.
+pub fn ground(r: &mut Random) -> Ground {
+    whole(r).half_drawn_once_in(r, 10)
+}
+
 /// One or two tables with keys in their first columns. Foreign keys of either match share child
 /// columns; two of them have often the same columns and not the same match.
-pub fn ground(r: &mut Random) -> Ground {
+pub fn whole(r: &mut Random) -> Ground {
     let width = r.pick(&[2, 2, 3, 4]);
     let columns = r.between(width + 1, 2 * width);
     let widths = r.pick(&[[width, width], [width, width], [width, width - 1]]);

@@ -18,11 +18,12 @@ pub fn any(r: &mut Random, ground: &Ground, words: &[i64]) -> Vec<i64> {
         schema: &ground.schema,
         words: words.to_vec(),
     };
-    let keys = &ground.schema.keys;
+    let keys = ground.schema.keys.iter();
+    let keys: Vec<&Key> = keys.filter(|key| ground.schema.has_parent(key)).collect();
     if keys.is_empty() || r.once_in(3) {
         return calls::leading_to_actions(r, ground, words);
     }
-    let key = &keys[r.between(0, keys.len() - 1)];
+    let key = r.pick(&keys);
     if r.once_in(6) {
         return column_set(r, ground, key);
     }

@@ -10,8 +10,13 @@ use crate::schema_bytes::build;
 use crate::schema_bytes::records::{Key, Schema as Records, Table};
 use crate::schema_bytes::valid::low_bits;
 
-/// One or two tables with a key in their first columns, referred to by their last ones.
+/// Schemas in which many rows can refer to one, some with broken keys.
 pub fn ground(r: &mut Random) -> Ground {
+    whole(r).half_drawn_once_in(r, 10)
+}
+
+/// One or two tables with a key in their first columns, referred to by their last ones.
+pub fn whole(r: &mut Random) -> Ground {
     let width = r.between(1, 4);
     let columns = r.between(width + 1, 2 * width);
     let count = r.pick(&[1, 2, 2]);
@@ -114,9 +119,12 @@ impl<'a> Herd<'a> {
         row
     }
 
+    /// Sets those of the columns that the row has.
     fn set(&self, row: &mut Row, columns: &[usize]) {
         for (&column, &value) in columns.iter().zip(&self.values) {
-            row[column] = Some(value);
+            if let Some(place) = row.get_mut(column) {
+                *place = Some(value);
+            }
         }
     }
 }

@@ -3,11 +3,11 @@
 
 use super::grounds::Ground;
 use crate::random::Random;
-use crate::schema_bytes::build;
 use crate::schema_bytes::records::{Key, Schema as Records, Table};
 use crate::schema_bytes::valid::{key, low_bits, parents};
+use crate::schema_bytes::{build, half_drawn};
 
-/// Up to four tables. As many values as a table can have rows: some rows have parents, some none.
+/// Up to four tables, some schemas with a broken key. As many values as a table can have rows: some rows have parents, some none.
 pub fn many_keys(r: &mut Random) -> Ground {
     let most_rows = if r.once_in(8) {
         1024
@@ -18,7 +18,11 @@ pub fn many_keys(r: &mut Random) -> Ground {
     let tables: Vec<Table> = (0..count).map(|_| table(r, most_rows)).collect();
     let keys = keys(r, &tables);
     let values = (0..most_rows as i64).collect();
-    Ground::new(Records::new(60, tables, keys), values)
+    let mut records = Records::new(60, tables, keys);
+    if !records.keys.is_empty() && r.once_in(4) {
+        half_drawn::break_one(&mut records, &r.pick(half_drawn::WAYS), r);
+    }
+    Ground::new(records, values)
 }
 
 /// A table whose first column is a unique key, and sometimes the first two or all are one.

@@ -10,12 +10,22 @@ use crate::random::Random;
 /// A search that mostly finds rows, often several.
 pub fn any(r: &mut Random, ground: &Ground, area: &Area) -> Search {
     let (table, live) = fuller_table(r, ground, area);
+    of_table(r, ground, area, (table, &live))
+}
+
+/// A search in a table that mostly finds rows, given the live ones.
+pub fn of_table(
+    r: &mut Random,
+    ground: &Ground,
+    area: &Area,
+    (table, live): (usize, &[Row]),
+) -> Search {
     let column = r.between(0, ground.schema.tables[table].columns - 1);
     let (column, sought) = match r.between(0, 5) {
         0 => (column, value(r, ground, table, column)),
         1 => (column, None),
         _ if live.is_empty() => (column, value(r, ground, table, column)),
-        _ => common_value(r, &live),
+        _ => common_value(r, live),
     };
     let set = (!r.once_in(3)).then(|| set(r, ground, area, table, column));
     Search {

@@ -2,6 +2,8 @@
 //! that are worth nothing. The tests must tell each from the paper's.
 
 mod actions;
+mod broken_keys;
+mod broken_readings;
 mod match_full;
 mod old_key;
 mod orphan_list;
@@ -31,6 +33,11 @@ pub fn all() -> Vec<Named> {
         transactions::ALL,
         orphan_list::ALL,
         searches::ALL,
+        broken_keys::NUMBERS,
+        broken_keys::ORDER,
+        broken_keys::KINDS,
+        broken_keys::VALUES,
+        broken_readings::ALL,
     ];
     let misread = lists.into_iter().flatten().map(|&(name, change)| {
         let mut model = Model::of_the_paper();
@@ -38,5 +45,7 @@ pub fn all() -> Vec<Named> {
         (name, Box::new(model) as Box<dyn Engine>)
     });
     let readings = match_full::READINGS.iter().map(other_bytes::engine);
-    misread.chain(readings).chain(worthless::all()).collect()
+    let others = [worthless::all(), broken_readings::by_statement()];
+    let others = others.into_iter().flatten();
+    misread.chain(readings).chain(others).collect()
 }

@@ -2,7 +2,7 @@
 
 use super::Mistake;
 use crate::model::area::Area;
-use crate::model::change::{unique, Change};
+use crate::model::change::{unique, Change, Check};
 use crate::model::damage::most_kept;
 use crate::model::rules::Rules;
 
@@ -25,15 +25,17 @@ pub const ALL: &[Mistake] = &[
         set_check(rules, 15, |area, _| area.used() + 1 < area.schema.room);
     }),
     ("journal room judged before depth", |rules| {
-        rules.checks.swap(0, 1)
+        move_check(rules, 15, 0)
     }),
     ("NOT NULL judged before journal room", |rules| {
-        rules.checks.swap(1, 2)
+        move_check(rules, 16, 1)
     }),
     ("unique judged before NOT NULL", |rules| {
-        rules.checks.swap(2, 3)
+        move_check(rules, 17, 3)
     }),
-    ("unique not judged", |rules| rules.checks.truncate(3)),
+    ("unique not judged", |rules| {
+        rules.checks.retain(|check| check.0 != 17)
+    }),
     ("NULL in a unique key equals NULL", |rules| {
         set_check(rules, 17, |area, change| {
             unique(area, change, |one, other| one == other)
@@ -121,9 +123,21 @@ pub const ALL: &[Mistake] = &[
     }),
 ];
 
-fn set_check(rules: &mut Rules, code: i64, holds: fn(&Area, &Change) -> bool) {
+/// The check of a refusal.
+pub fn check_of(rules: &mut Rules, code: i64) -> &mut Check {
     let slot = rules.checks.iter_mut().find(|check| check.0 == code);
-    slot.expect("there is such a check").1 = holds;
+    slot.expect("there is such a check")
+}
+
+pub fn set_check(rules: &mut Rules, code: i64, holds: fn(&Area, &Change) -> bool) {
+    check_of(rules, code).1 = holds;
+}
+
+/// Moves the check of a refusal to this place among the others.
+pub fn move_check(rules: &mut Rules, code: i64, place: usize) {
+    let check = *check_of(rules, code);
+    rules.checks.retain(|other| other.0 != code);
+    rules.checks.insert(place, check);
 }
 
 /// Replaces the check of refusal 20.
@@ -139,7 +153,7 @@ pub fn drop_form(rules: &mut Rules, name: &str) {
 }
 
 /// Replaces one condition of the form of an area.
-fn set_form(rules: &mut Rules, name: &str, holds: fn(&Area) -> bool) {
+pub fn set_form(rules: &mut Rules, name: &str, holds: fn(&Area) -> bool) {
     let slot = rules.area_forms.iter_mut().find(|form| form.0 == name);
     slot.expect("there is such a condition").1 = holds;
 }

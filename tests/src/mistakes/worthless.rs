@@ -24,7 +24,11 @@ pub fn all() -> Vec<Named> {
     ]
 }
 
-fn with_calls(name: &'static str, call: fn(&Model, &[u8], &mut [i64], &[i64]) -> Answer) -> Named {
+/// The model with other answers to calls.
+pub fn with_calls(
+    name: &'static str,
+    call: fn(&Model, &[u8], &mut [i64], &[i64]) -> Answer,
+) -> Named {
     let engine = Worthless {
         model: Model::of_the_paper(),
         call,

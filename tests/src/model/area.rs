@@ -78,9 +78,9 @@ impl Area<'_> {
         Some(values.iter().enumerate().map(value).collect())
     }
 
-    /// The live rows of a table with their numbers, rising.
+    /// The live rows of a table with their numbers, rising: none of a table that is missing.
     pub fn live_rows(&self, table: usize) -> Vec<(usize, Row)> {
-        let rows = 0..self.schema.tables[table].rows;
+        let rows = 0..self.schema.tables.get(table).map_or(0, |t| t.rows);
         rows.filter_map(|n| self.row(table, n).map(|row| (n, row)))
             .collect()
     }

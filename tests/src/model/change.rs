@@ -3,7 +3,7 @@
 use super::area::Area;
 use super::keys::equal;
 use super::rules::Rules;
-use super::schema::Row;
+use super::schema::{Key, Row};
 use super::walk::{self, Walk};
 
 /// A row to be written: none is a deletion.
@@ -26,15 +26,49 @@ impl Change {
     }
 }
 
+/// What a change does to its row.
+#[derive(Clone, Copy, PartialEq)]
+pub enum Kind {
+    Insert,
+    Update,
+    Delete,
+}
+
+/// An insert finds a vacant row, the others a live one.
+pub fn kind(area: &Area, change: &Change) -> Kind {
+    match (&change.new, area.row(change.table, change.row)) {
+        (None, _) => Kind::Delete,
+        (Some(_), Some(_)) => Kind::Update,
+        (Some(_), None) => Kind::Insert,
+    }
+}
+
 /// A check of a row change, and the refusal where it does not hold.
 pub type Check = (i64, fn(&Area, &Change) -> bool);
 
 pub const CHECKS: &[Check] = &[
     (14, |_, change| change.depth <= 16),
     (15, |area, _| area.used() < area.schema.room),
+    (23, |area, change| uses_no_broken_key(area, change, uses)),
     (16, not_null),
     (17, |area, change| unique(area, change, equal)),
 ];
+
+/// Whether a change of this kind of a row of the table uses a foreign key: an insert or an update of
+/// a child row, an update or a deletion of a parent row.
+pub fn uses(key: &Key, table: usize, kind: Kind) -> bool {
+    key.child == table && kind != Kind::Delete || key.parent == table && kind != Kind::Insert
+}
+
+pub fn uses_no_broken_key(
+    area: &Area,
+    change: &Change,
+    uses: fn(&Key, usize, Kind) -> bool,
+) -> bool {
+    let kind = kind(area, change);
+    let mut broken = area.schema.keys.iter().filter(|key| key.broken);
+    !broken.any(|key| uses(key, change.table, kind))
+}
 
 fn not_null(area: &Area, change: &Change) -> bool {
     let columns = &area.schema.tables[change.table].not_null;

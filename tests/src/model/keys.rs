@@ -39,8 +39,14 @@ pub fn having(area: &Area, key: &Key, wanted: &Row) -> Vec<usize> {
         .collect()
 }
 
-/// Whether a live row with this child key is an orphan, given the keys of the live parent rows.
+/// Whether a live row with this child key is an orphan, given the keys of the live parent rows. A
+/// broken key has none.
 pub fn orphan(key: &Key, child_key: &Row, parent_keys: &BTreeSet<Row>) -> bool {
+    !key.broken && unserved(key, child_key, parent_keys)
+}
+
+/// Whether a live row with this child key is an orphan by the key's match.
+pub fn unserved(key: &Key, child_key: &Row, parent_keys: &BTreeSet<Row>) -> bool {
     match key.matching {
         Match::Full if half_filled(child_key) => true,
         _ => full(child_key) && !parent_keys.contains(child_key),

@@ -34,9 +34,9 @@ impl Model {
         }
     }
 
-    /// Rows changed and net, or a refusal, in the order 1, 2, 3, 4, 10, then those of the call.
+    /// Rows changed and net, or a refusal, in the order 1, 3, 4, 10, then those of the call.
     fn step(&self, schema: &[u8], area: &mut [i64], call: &[i64]) -> Outcome {
-        let schema = Schema::read(schema)?;
+        let schema = (self.rules.read)(schema)?;
         let mut book = of_length(&schema, area)?;
         let call = form::read(&self.rules, &schema, call).ok_or(4)?;
         self.judge_damage(&book)?;
@@ -86,9 +86,9 @@ impl Model {
         })
     }
 
-    /// The orphans of an area in the sequence of the list, or refusal 1, 2, 3 or 10.
+    /// The orphans of an area in the sequence of the list, or refusal 1, 3 or 10.
     pub fn orphans(&self, schema: &[u8], area: &[i64]) -> Result<Vec<Orphan>, i64> {
-        let schema = Schema::read(schema)?;
+        let schema = (self.rules.read)(schema)?;
         let book = of_length(&schema, area)?;
         self.judge_damage(&book)?;
         Ok(list::orphans(&self.rules, &book))
@@ -108,15 +108,16 @@ fn of_length<'a>(schema: &'a Schema, area: &[i64]) -> Result<Area<'a>, i64> {
 
 impl Engine for Model {
     fn check_schema(&self, schema: &[u8]) -> i64 {
-        Schema::read(schema).err().unwrap_or(0)
+        (self.rules.read)(schema).err().unwrap_or(0)
     }
 
     fn area_words(&self, schema: &[u8]) -> i64 {
-        Schema::read(schema).map_or(0, |schema| schema.area_words() as i64)
+        (self.rules.read)(schema).map_or(0, |schema| schema.area_words() as i64)
     }
 
     fn make_fresh(&self, schema: &[u8], area: &mut [i64]) -> i64 {
-        let checked = Schema::read(schema).and_then(|schema| of_length(&schema, area).map(drop));
+        let schema = (self.rules.read)(schema);
+        let checked = schema.and_then(|schema| of_length(&schema, area).map(drop));
         match checked {
             Ok(()) => {
                 area.fill(0);

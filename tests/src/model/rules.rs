@@ -17,11 +17,13 @@ use std::collections::BTreeSet;
 
 #[derive(Clone)]
 pub struct Rules {
+    /// The schema of the bytes, or their refusal.
+    pub read: fn(&[u8]) -> Result<Schema, i64>,
     /// Refusal 4: what must hold of the words of a call.
     pub call_forms: Vec<form::Form>,
     /// Refusal 10: what must hold of the words of an area.
     pub area_forms: Vec<damage::Form>,
-    /// The checks of a row change, in order: refusals 14 to 17.
+    /// The checks of a row change, in order: refusals 14, 15, 23, 16 and 17.
     pub checks: Vec<Check>,
     /// The checks at the end of a statement, in order, each for all keys: refusals 19 and 20.
     pub ends: Vec<End>,
@@ -92,6 +94,7 @@ pub struct Rules {
 impl Rules {
     pub fn of_the_paper() -> Rules {
         Rules {
+            read: Schema::read,
             call_forms: [form::FORMS, search::FORMS].concat(),
             area_forms: damage::FORMS.to_vec(),
             checks: change::CHECKS.to_vec(),

@@ -65,6 +65,9 @@ pub struct Key {
     pub child_columns: Vec<usize>,
     pub parent_columns: Vec<usize>,
     pub matching: Match,
+    /// The parent table or a parent column is missing, or no unique key of the parent has exactly
+    /// the parent columns.
+    pub broken: bool,
 }
 
 pub struct Schema {
@@ -75,7 +78,7 @@ pub struct Schema {
 }
 
 impl Schema {
-    /// The schema of the bytes, or refusal 1 or 2.
+    /// The schema of the bytes, or refusal 1.
     pub fn read(bytes: &[u8]) -> Result<Schema, i64> {
         match Rules::of_the_paper().code(bytes) {
             0 => Ok(Schema::of_valid(View(bytes))),
@@ -84,11 +87,33 @@ impl Schema {
     }
 
     fn of_valid(s: View) -> Schema {
-        Schema {
+        let schema = Schema {
             room: s.half(12),
             tables: (0..s.tables()).map(|t| table(s, t)).collect(),
             keys: (0..s.keys()).map(|k| key(s, k)).collect(),
+        };
+        schema.with_broken(|parent, columns| parent.unique.iter().any(|u| same(u, columns)))
+    }
+
+    /// The schema with those keys broken whose parent table is missing or does not serve the parent
+    /// columns.
+    pub fn with_broken(mut self, serves: fn(&Table, &[usize]) -> bool) -> Schema {
+        for key in &mut self.keys {
+            let parent = self.tables.get(key.parent);
+            key.broken = !parent.map_or(false, |parent| serves(parent, &key.parent_columns));
         }
+        self
+    }
+
+    pub fn any_broken(&self) -> bool {
+        self.keys.iter().any(|key| key.broken)
+    }
+
+    /// Whether the parent table of a key exists, and its parent columns.
+    pub fn has_parent(&self, key: &Key) -> bool {
+        let parent = self.tables.get(key.parent);
+        let has_columns = |table: &Table| key.parent_columns.iter().all(|&c| c < table.columns);
+        parent.map_or(false, has_columns)
     }
 
     /// How many words an area of this schema has.
@@ -110,9 +135,17 @@ impl Key {
         self.child_columns.iter().map(|&c| row[c]).collect()
     }
 
+    /// The values in the parent columns. One that is missing reads as NULL: only a mistaken reading
+    /// looks there.
     pub fn parent_key(&self, row: &Row) -> Row {
-        self.parent_columns.iter().map(|&c| row[c]).collect()
+        let columns = self.parent_columns.iter();
+        columns.map(|&c| row.get(c).copied().flatten()).collect()
     }
+}
+
+/// Whether two lists have the same columns, in any order.
+pub fn same(one: &[usize], other: &[usize]) -> bool {
+    one.len() == other.len() && one.iter().all(|column| other.contains(column))
 }
 
 /// The columns of a mask.
@@ -150,6 +183,7 @@ fn key(s: View, k: usize) -> Key {
             0 => Match::Simple,
             _ => Match::Full,
         },
+        broken: false,
     }
 }
 

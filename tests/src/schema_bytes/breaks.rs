@@ -3,8 +3,8 @@
 use crate::random::Random;
 use crate::schema_bytes::breaks_header::HEADER;
 use crate::schema_bytes::breaks_keys::KEYS;
-use crate::schema_bytes::breaks_parents::PARENTS;
 use crate::schema_bytes::breaks_tables::TABLES;
+use crate::schema_bytes::half_drawn::BESIDE;
 use crate::schema_bytes::harmless::HARMLESS;
 use crate::schema_bytes::records::Schema;
 
@@ -13,5 +13,5 @@ use crate::schema_bytes::records::Schema;
 pub type Break = (&'static str, i64, fn(&mut Schema, &mut Random));
 
 pub fn all() -> Vec<Break> {
-    [HEADER, TABLES, KEYS, PARENTS, HARMLESS].concat()
+    [HEADER, TABLES, KEYS, BESIDE, HARMLESS].concat()
 }

@@ -1,4 +1,4 @@
-//! Breaks of the rules of foreign keys that lead to refusal 1.
+//! Breaks of the rules of foreign keys.
 
 use crate::random::Random;
 use crate::schema_bytes::breaks::Break;

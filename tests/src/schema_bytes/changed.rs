@@ -1,6 +1,6 @@
 //! Rules of the paper, each changed by one mistake.
 
-use crate::schema_bytes::rules::{below, distinct, same_columns};
+use crate::schema_bytes::rules::{all_255, below, distinct};
 use crate::schema_bytes::view::{bit, table_at, View};
 
 /// The mistake's name, the name of the rule in whose place it stands, and the changed rule.
@@ -109,59 +109,57 @@ pub const CHANGED: &[Changed] = &[
         "zero byte of a key",
         |s, k| s.key_byte(k, 15) <= 1,
     ),
-    (
-        "count of ones not compared",
-        "unique key of the parent",
-        |s, k| {
-            matches(s, k, |list, mask| {
-                list.iter().all(|&c| bit(mask.into(), c.into()))
-            })
-        },
-    ),
-    (
-        "count of ones alone compared",
-        "unique key of the parent",
-        |s, k| matches(s, k, |list, mask| list.len() == mask.count_ones() as usize),
-    ),
-    (
-        "a smaller unique key let pass",
-        "unique key of the parent",
-        |s, k| {
-            matches(s, k, |list, mask| {
-                mask != 0 && (0..8).all(|i| !bit(mask.into(), i.into()) || list.contains(&i))
-            })
-        },
-    ),
-    (
-        "parent columns only in order",
-        "unique key of the parent",
-        |s, k| {
-            matches(s, k, |list, mask| {
-                same_columns(list, mask) && list.windows(2).all(|w| w[0] < w[1])
-            })
-        },
-    ),
-    (
-        "only three unique keys looked at",
-        "unique key of the parent",
-        |s, k| {
-            let keys = &s.unique(s.parent(k))[..3];
-            keys.iter()
-                .any(|&mask| same_columns(s.parent_columns(k).0, mask))
-        },
-    ),
-    ("a key to its own table refused", "parent table", |s, k| {
-        s.parent(k) < s.tables() && s.parent(k) != s.child(k)
+    ("a key to its own table refused", "child table", |s, k| {
+        s.child(k) < s.tables() && s.parent(k) != s.child(k)
     }),
+    (
+        "a missing parent table refused",
+        "distinct parent columns",
+        |s, k| s.parent(k) < s.tables() && distinct(s.parent_columns(k).0),
+    ),
+    (
+        "a missing parent column refused",
+        "distinct parent columns",
+        |s, k| {
+            let columns = s.parent_columns(k).0;
+            let missing = s.parent(k) < s.tables() && !below(columns, s.columns(s.parent(k)));
+            distinct(columns) && !missing
+        },
+    ),
+    (
+        "a parent column above 7 refused",
+        "distinct parent columns",
+        |s, k| distinct(s.parent_columns(k).0) && below(s.parent_columns(k).0, 8),
+    ),
+    (
+        "a parent column 255 refused",
+        "distinct parent columns",
+        |s, k| distinct(s.parent_columns(k).0) && below(s.parent_columns(k).0, 255),
+    ),
+    (
+        "a parent without a unique key refused",
+        "distinct parent columns",
+        |s, k| {
+            let (parent, columns) = (s.parent(k), s.parent_columns(k).0);
+            let without = parent < s.tables() && s.unique(parent)[0] == 0;
+            distinct(columns) && !without
+        },
+    ),
+    (
+        "parent columns past n of a missing table let pass",
+        "parent columns past n",
+        |s, k| s.parent(k) >= s.tables() || all_255(s.parent_columns(k).1),
+    ),
+    (
+        "child columns of a broken key let pass",
+        "child columns",
+        |s, k| {
+            let columns = s.child_columns(k).0;
+            s.parent(k) >= s.tables() || below(columns, s.columns(s.child(k)))
+        },
+    ),
 ];
 
 fn parent_columns_exist(s: View, k: usize) -> bool {
     s.parent(k) < s.tables() && below(s.parent_columns(k).0, s.columns(s.parent(k)))
-}
-
-/// Whether a unique key of the parent table, if there is one, passes the test.
-fn matches(s: View, k: usize, test: fn(&[u8], u8) -> bool) -> bool {
-    let list = s.parent_columns(k).0;
-    let mut masks = s.unique(s.parent(k)).iter();
-    s.parent(k) >= s.tables() || parent_columns_exist(s, k) && masks.any(|&mask| test(list, mask))
 }

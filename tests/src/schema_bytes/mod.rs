@@ -3,10 +3,10 @@
 pub mod breaks;
 mod breaks_header;
 mod breaks_keys;
-mod breaks_parents;
 mod breaks_tables;
 pub mod build;
 mod changed;
+pub mod half_drawn;
 pub mod harmless;
 pub mod mistakes;
 pub mod records;

@@ -11,8 +11,6 @@ pub struct Rules {
     pub header: Vec<Rule>,
     pub tables: Vec<Rule>,
     pub keys: Vec<Rule>,
-    /// The rules of foreign keys that lead to refusal 2; all others lead to 1.
-    pub parents: Vec<Rule>,
 }
 
 impl Rules {
@@ -21,33 +19,27 @@ impl Rules {
             header: HEADER.to_vec(),
             tables: TABLES.to_vec(),
             keys: KEYS.to_vec(),
-            parents: PARENTS.to_vec(),
         }
     }
 
-    /// The code of the bytes: 2 is judged after 1 for all records.
+    /// The code of the bytes: 1 where a rule is broken, else 0. What is said of a parent is no rule of
+    /// the schema bytes: a foreign key that breaks it is a broken one.
     pub fn code(&self, bytes: &[u8]) -> i64 {
         let s = View(bytes);
-        if !self.header_holds(s) || !self.records_hold(s) {
-            1
-        } else if !hold(&self.parents, s, s.keys()) {
-            2
-        } else {
-            0
-        }
+        i64::from(!self.header_holds(s) || !self.records_hold(s))
     }
 
-    pub fn header_holds(&self, s: View) -> bool {
+    fn header_holds(&self, s: View) -> bool {
         s.0.len() >= 16 && hold(&self.header, s, 1)
     }
 
-    pub fn records_hold(&self, s: View) -> bool {
+    fn records_hold(&self, s: View) -> bool {
         hold(&self.tables, s, s.tables()) && hold(&self.keys, s, s.keys())
     }
 }
 
 /// Whether the rules hold for the records 0 to `count` - 1.
-pub fn hold(rules: &[Rule], s: View, count: usize) -> bool {
+fn hold(rules: &[Rule], s: View, count: usize) -> bool {
     (0..count).all(|i| rules.iter().all(|(_, holds)| holds(s, i)))
 }
 
@@ -110,16 +102,6 @@ const KEYS: &[Rule] = &[
     ("zero byte of a key", |s, k| s.key_byte(k, 15) == 0),
 ];
 
-const PARENTS: &[Rule] = &[
-    ("parent table", |s, k| s.parent(k) < s.tables()),
-    ("unique key of the parent", |s, k| {
-        let (parent, columns) = (s.parent(k), s.parent_columns(k).0);
-        parent >= s.tables()
-            || below(columns, s.columns(parent))
-                && s.unique(parent).iter().any(|&m| same_columns(columns, m))
-    }),
-];
-
 /// Whether the bits of a mask at `columns` and above are 0.
 fn within(mask: usize, columns: usize) -> bool {
     (columns..8).all(|i| !bit(mask, i))
@@ -129,15 +111,10 @@ pub fn below(list: &[u8], bound: usize) -> bool {
     list.iter().all(|&c| usize::from(c) < bound)
 }
 
-fn all_255(list: &[u8]) -> bool {
+pub fn all_255(list: &[u8]) -> bool {
     list.iter().all(|&c| c == 255)
 }
 
 pub fn distinct(list: &[u8]) -> bool {
     (1..list.len()).all(|i| !list[..i].contains(&list[i]))
-}
-
-/// Whether the columns, in any order, are exactly those of the mask.
-pub fn same_columns(list: &[u8], mask: u8) -> bool {
-    below(list, 8) && (0..8).all(|i| bit(mask.into(), i.into()) == list.contains(&i))
 }

@@ -1,6 +1,7 @@
 //! Families of random slices.
 
 use crate::random::Random;
+use crate::schema_bytes::half_drawn::break_some;
 use crate::schema_bytes::valid::{any_valid, four, valid};
 
 pub struct Family {
@@ -19,6 +20,12 @@ pub const FAMILIES: &[Family] = &[
         count: 20 * 16 * 33,
         code: Some(0),
         make: |r, i| valid(r, 1 + i % 16, i / 16 % 33).bytes(),
+    },
+    Family {
+        name: "half-drawn schemas of every size",
+        count: 10 * 16 * 32,
+        code: Some(0),
+        make: |r, i| half_drawn(r, 1 + i % 16, 1 + i / 16 % 32),
     },
     Family {
         name: "valid schemas with some bytes changed",
@@ -57,6 +64,13 @@ pub const FAMILIES: &[Family] = &[
         make: |r, _| random_keys(r),
     },
 ];
+
+/// A schema of these numbers of tables and foreign keys, some of them broken.
+fn half_drawn(r: &mut Random, tables: usize, keys: usize) -> Vec<u8> {
+    let mut schema = valid(r, tables, keys);
+    break_some(&mut schema, r);
+    schema.bytes()
+}
 
 fn with_changes(r: &mut Random) -> Vec<u8> {
     let mut bytes = any_valid(r).bytes();

@@ -62,8 +62,28 @@ impl Connection {
         Connection { db }
     }
 
-    /// A statement, which must not be used after the connection is dropped.
+    /// A statement that must be one, not to be used after the connection is dropped.
     pub fn prepare(&self, sql: &str) -> Statement {
+        let prepared = self.prepared(sql);
+        prepared.unwrap_or_else(|message| panic!("{}: {}", sql, message))
+    }
+
+    /// A statement, or none where SQLite refuses it for a broken foreign key.
+    pub fn prepare_unless_broken(&self, sql: &str) -> Option<Statement> {
+        let for_broken_key = |message: &str| {
+            ["foreign key mismatch", "no such table"]
+                .iter()
+                .any(|m| message.starts_with(m))
+        };
+        match self.prepared(sql) {
+            Ok(statement) => Some(statement),
+            Err(message) if for_broken_key(&message) => None,
+            Err(message) => panic!("{}: {}", sql, message),
+        }
+    }
+
+    /// A statement, or the message by which SQLite refuses it.
+    fn prepared(&self, sql: &str) -> Result<Statement, String> {
         let text = CString::new(sql).expect("SQL has no zero byte");
         let mut handle = null_mut();
         // SAFETY: the connection is open, the text ends with a zero byte, and the handle is put into
@@ -77,8 +97,11 @@ impl Connection {
                 null_mut::<*const c_char>(),
             )
         };
-        assert_eq!(code, OK, "{}: {}", sql, self.message());
-        Statement { handle }
+        if code == OK {
+            Ok(Statement { handle })
+        } else {
+            Err(self.message())
+        }
     }
 
     /// Runs one statement that must succeed.

@@ -8,13 +8,13 @@ use crate::model::form::Call;
 use crate::model::schema::{Row, Schema, Value};
 use crate::model::search::Search;
 
-/// The statements of one table.
+/// The statements of one table: none where SQLite refuses them for a broken foreign key.
 struct Table {
-    insert: Statement,
-    update: Statement,
-    delete: Statement,
+    insert: Option<Statement>,
+    update: Option<Statement>,
+    delete: Option<Statement>,
     select: Statement,
-    orphans: Statement,
+    orphans: Option<Statement>,
     columns: usize,
     /// The foreign keys whose child it is, rising.
     keys: Vec<usize>,
@@ -30,12 +30,23 @@ pub struct Database {
 impl Database {
     /// An empty book.
     pub fn new(schema: &Schema) -> Database {
+        Database::with_rows(schema, &[])
+    }
+
+    /// A book with these rows, each with its table and its number, whatever foreign keys say.
+    pub fn with_rows(schema: &Schema, rows: &[(usize, usize, Row)]) -> Database {
         let connection = Connection::in_memory();
-        connection.execute("PRAGMA foreign_keys=ON");
+        connection.execute("PRAGMA foreign_keys=OFF");
         let numbers = 0..schema.tables.len();
         for number in numbers.clone() {
             connection.execute(&statements::create_table(schema, number));
         }
+        for (table, row, values) in rows {
+            let insert = connection.prepare(&statements::insert(schema, *table));
+            insert.bind(&numbered(*row, values));
+            assert!(insert.run(), "a row can be entered");
+        }
+        connection.execute("PRAGMA foreign_keys=ON");
         Database {
             tables: numbers
                 .map(|number| Table::new(&connection, schema, number))
@@ -51,6 +62,23 @@ impl Database {
         let before = self.connection.total_changes();
         let accepted = self.accepts(call);
         accepted.then(|| self.connection.total_changes() - before)
+    }
+
+    /// Whether SQLite refuses to prepare the statement of a call for a broken foreign key.
+    pub fn prevents(&self, call: &Call) -> bool {
+        match call {
+            Call::Insert(table, ..) => self.tables[*table].insert.is_none(),
+            Call::Update(table, ..) => self.tables[*table].update.is_none(),
+            Call::Delete(table, _) => self.tables[*table].delete.is_none(),
+            Call::Search(search) => self.prepare_search(search).is_none(),
+            _ => false,
+        }
+    }
+
+    fn prepare_search(&self, search: &Search) -> Option<Statement> {
+        let columns = self.tables[search.table].columns;
+        let sql = statements::search(search, columns);
+        self.connection.prepare_unless_broken(&sql)
     }
 
     /// Whether SQLite accepts the call. An update or a deletion of no row, which it lets pass, is
@@ -72,25 +100,25 @@ impl Database {
 
     fn change(
         &self,
-        which: fn(&Table) -> &Statement,
+        which: fn(&Table) -> &Option<Statement>,
         table: usize,
         row: usize,
         new: &[Value],
     ) -> bool {
-        let statement = which(&self.tables[table]);
-        let mut values = vec![Some(row as i64)];
-        values.extend(new);
-        statement.bind(&values);
-        statement.run() && self.connection.changes() == 1
+        which(&self.tables[table])
+            .as_ref()
+            .map_or(false, |statement| {
+                statement.bind(&numbered(row, new));
+                statement.run() && self.connection.changes() == 1
+            })
     }
 
     /// One statement for many rows. That it finds no row is no cause to refuse.
     fn search(&self, search: &Search) -> bool {
-        let columns = self.tables[search.table].columns;
-        let sql = statements::search(search, columns);
-        let statement = self.connection.prepare(&sql);
-        statement.bind(&statements::search_values(search));
-        statement.run()
+        self.prepare_search(search).map_or(false, |statement| {
+            statement.bind(&statements::search_values(search));
+            statement.run()
+        })
     }
 
     /// Runs a statement after which this many levels are open.
@@ -132,24 +160,34 @@ impl Table {
     fn new(connection: &Connection, schema: &Schema, number: usize) -> Table {
         let columns = schema.tables[number].columns;
         let keys = 0..schema.keys.len();
+        let prepare = |sql: String| connection.prepare_unless_broken(&sql);
         Table {
-            insert: connection.prepare(&statements::insert(number, columns)),
-            update: connection.prepare(&statements::update(number, columns)),
-            delete: connection.prepare(&statements::delete(number)),
+            insert: prepare(statements::insert(schema, number)),
+            update: prepare(statements::update(number, columns)),
+            delete: prepare(statements::delete(number)),
             select: connection.prepare(&statements::select(number)),
-            orphans: connection.prepare(&statements::orphans(number)),
+            orphans: prepare(statements::orphans(number)),
             columns,
             keys: keys.filter(|&k| schema.keys[k].child == number).collect(),
         }
     }
 
-    /// The orphans among its rows, in SQLite's sequence.
+    /// The orphans among its rows, in SQLite's sequence. It lists none where a key is broken.
     fn orphans(&self) -> Vec<Orphan> {
-        let found = self.orphans.rows(4).expect("orphans can be read");
+        let orphans = self.orphans.as_ref();
+        let found = orphans.map(|list| list.rows(4).expect("orphans can be read"));
+        let found = found.unwrap_or_default();
         let orphan = |line: Vec<Value>| {
             let number = |place: usize| line[place].expect("it is a number") as usize;
             Orphan::new(self.keys[number(3)], number(1))
         };
         found.into_iter().map(orphan).collect()
     }
+}
+
+/// The parameters of an insert, an update or a deletion: the row number, then the values.
+fn numbered(row: usize, values: &[Value]) -> Vec<Value> {
+    let mut all = vec![Some(row as i64)];
+    all.extend(values);
+    all
 }

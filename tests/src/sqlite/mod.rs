@@ -2,4 +2,4 @@
 
 mod binding;
 pub mod database;
-mod statements;
+pub mod statements;

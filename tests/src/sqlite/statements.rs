@@ -50,10 +50,24 @@ fn names(columns: &[usize]) -> String {
 }
 
 /// An insert of the row number and the columns. INSERT .. VALUES of one row that an immediate key
-/// refuses can leave SQLite's count of deferred violations raised; INSERT .. SELECT does not.
-pub fn insert(number: usize, columns: usize) -> String {
+/// refuses can leave SQLite's count of deferred violations raised; INSERT .. SELECT does not. But a
+/// broken immediate key prevents INSERT .. SELECT into its parent table.
+pub fn insert(schema: &Schema, number: usize) -> String {
+    let columns = schema.tables[number].columns;
     let values: Vec<String> = (1..=columns + 1).map(|n| format!("?{}", n)).collect();
-    format!("INSERT INTO t{} SELECT {}", number, values.join(","))
+    let values = values.join(",");
+    if enters_by_values(schema, number) {
+        format!("INSERT INTO t{} VALUES({})", number, values)
+    } else {
+        format!("INSERT INTO t{} SELECT {}", number, values)
+    }
+}
+
+/// Whether a table is the parent of broken keys and the child of none: so no key refuses its rows.
+pub fn enters_by_values(schema: &Schema, number: usize) -> bool {
+    let mut keys = schema.keys.iter();
+    let is_child = schema.keys.iter().any(|key| key.child == number);
+    !is_child && keys.any(|key| key.broken && key.parent == number)
 }
 
 /// An update of every column; the row number is the first parameter.

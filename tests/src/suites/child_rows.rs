@@ -13,7 +13,7 @@ const LEAST_OF_A_CODE: usize = 100;
 const LEAST_OF_A_SITUATION: usize = 5;
 
 /// The codes of calls that run a statement.
-const CODES: &[i64] = &[0, 14, 15, 16, 17, 18, 19, 20];
+const CODES: &[i64] = &[0, 14, 15, 16, 17, 18, 19, 20, 23];
 
 pub fn run(r: &mut Random, report: &mut Report) {
     let mut trials = ChildRows::new();

@@ -13,7 +13,7 @@ const LEAST_OF_A_CODE: usize = 100;
 const LEAST_OF_A_SITUATION: usize = 5;
 
 /// The codes of calls, but for those of malformed inputs.
-const CODES: &[i64] = &[0, 10, 11, 12, 15, 16, 17, 18, 19, 20, 21];
+const CODES: &[i64] = &[0, 10, 11, 12, 15, 16, 17, 18, 19, 20, 21, 23];
 
 pub fn run(r: &mut Random, report: &mut Report) {
     let mut trials = HalfFilled::new();

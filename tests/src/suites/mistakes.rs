@@ -5,7 +5,9 @@ use crate::engine::Engine;
 use crate::mistakes;
 use crate::random::Random;
 use crate::report::Report;
+use crate::trials::broken_keys::BrokenKeys;
 use crate::trials::child_rows::ChildRows;
+use crate::trials::every_parent::EveryParent;
 use crate::trials::half_filled::HalfFilled;
 use crate::trials::operations::Operations;
 use crate::trials::orphan_lists::OrphanLists;
@@ -27,6 +29,19 @@ const PARTS: &[Part] = &[
     ("half-filled keys", |engine, r| {
         let mut half_filled = HalfFilled::new();
         (0..60).any(|_| half_filled.trial(engine, r).is_err())
+    }),
+    ("broken keys", |engine, r| {
+        let mut broken_keys = BrokenKeys::new();
+        (0..200).any(|_| broken_keys.trial(engine, r).is_err())
+    }),
+    ("every parent", |engine, _| {
+        let mut every = EveryParent::new();
+        let outcomes = [
+            every.tables(engine),
+            every.columns(engine),
+            every.choices(engine),
+        ];
+        outcomes.iter().any(|outcome| outcome.is_err())
     }),
     ("orphan lists", |engine, r| {
         let mut lists = OrphanLists::new();

@@ -1,5 +1,6 @@
 //! The suites: each runs its tests on the built engine or program and reports them by name.
 
+mod broken_keys;
 mod child_rows;
 mod edges;
 mod half_filled;
@@ -11,6 +12,7 @@ mod program;
 mod replay;
 mod schema;
 mod sqlite;
+mod sqlite_broken;
 
 use crate::random::Random;
 use crate::report::Report;
@@ -23,6 +25,7 @@ pub const ALL: &[(&str, Suite)] = &[
     ("operations", operations::run),
     ("child_rows", child_rows::run),
     ("half_filled", half_filled::run),
+    ("broken_keys", broken_keys::run),
     ("orphan_lists", orphan_lists::run),
     ("replay", replay::run),
     ("edges", edges::run),

@@ -20,7 +20,7 @@ const LEAST_OF_A_SITUATION: usize = 3;
 
 /// The codes that a call can be answered by.
 const CODES: &[i64] = &[
-    0, 1, 2, 3, 4, 10, 11, 12, 13, 14, 15, 16, 17, 18, 19, 20, 21,
+    0, 1, 3, 4, 10, 11, 12, 13, 14, 15, 16, 17, 18, 19, 20, 21, 23,
 ];
 
 pub fn run(r: &mut Random, report: &mut Report) {

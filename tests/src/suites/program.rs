@@ -17,6 +17,7 @@ const STORED: &[&str] = &[
     "paper",
     "short_last_call",
     "no_unique_key",
+    "parent_table_200",
     "match_full",
     "match_of_2",
     "words_8192",
@@ -25,6 +26,7 @@ const STORED: &[&str] = &[
 
 const RANDOM_INPUTS: usize = 1_500;
 const LEAST_SEARCHES: usize = 10_000;
+const LEAST_BY_23: usize = 500;
 
 pub fn run(r: &mut Random, report: &mut Report) {
     for name in STORED {
@@ -32,20 +34,32 @@ pub fn run(r: &mut Random, report: &mut Report) {
     }
     report.test("hoofrun: the paper's calls cut at each byte", cut());
     let mut outcome = Ok(());
-    let (mut inputs, mut searches) = (0, 0);
+    let (mut inputs, mut searches, mut by_23) = (0, 0, 0);
     while outcome.is_ok() && inputs < RANDOM_INPUTS {
         let input = random_input(r);
         searches += searches_in(&input);
-        outcome = against_model(&input);
+        let printed = against_model(&input);
+        by_23 += printed
+            .iter()
+            .map(|text| refused_by_23(text))
+            .sum::<usize>();
+        outcome = printed.map(drop);
         inputs += 1;
     }
     println!(
-        "{} random inputs of hoofrun compared with the model: {} calls of kinds 10 and 11",
-        inputs, searches
+        "{} random inputs of hoofrun compared with the model: {} calls of kinds 10 and 11, {} calls \
+         refused by 23",
+        inputs, searches, by_23
     );
     report.test("hoofrun: random inputs", outcome);
     let name = "hoofrun: calls of kinds 10 and 11";
     report.at_least(name, LEAST_SEARCHES, searches);
+    report.at_least("hoofrun: calls refused by 23", LEAST_BY_23, by_23);
+}
+
+/// How many lines of a printed text are those of refusal 23.
+fn refused_by_23(text: &str) -> usize {
+    text.lines().filter(|line| line.starts_with("23,")).count()
 }
 
 fn read(name: &str) -> Result<String, String> {
@@ -57,8 +71,7 @@ fn read(name: &str) -> Result<String, String> {
 fn stored(name: &str) -> Outcome {
     let input = bytes_of(&read(&format!("{}.hex", name))?);
     let expected = read(&format!("{}.txt", name))?;
-    against_model(&input)?;
-    same(&output(&input)?, &expected)
+    same(&against_model(&input)?, &expected)
 }
 
 /// The outputs for all lengths, equal ones told once, are the stored text.
@@ -79,9 +92,11 @@ fn cut() -> Outcome {
     same(all.trim_end(), read("paper_cut.txt")?.trim_end())
 }
 
-fn against_model(input: &[u8]) -> Outcome {
+/// The text that both the program and the model print.
+fn against_model(input: &[u8]) -> Result<String, String> {
     let (found, expected) = (output(input)?, text(&Model::of_the_paper(), input));
-    same(&found, &expected).map_err(|why| format!("{}; input {}", why, hex(input)))
+    same(&found, &expected).map_err(|why| format!("{}; input {}", why, hex(input)))?;
+    Ok(found)
 }
 
 fn same(found: &str, expected: &str) -> Outcome {

@@ -12,6 +12,12 @@ const LEAST_OPEN: usize = 300;
 const LEAST_SEARCHES: usize = 10_000;
 const LEAST_HALF_FILLING: usize = 200;
 
+/// How many lists on schemas with broken keys there are to be, how many calls refused by 23, and how
+/// many that enter rows into the parent table of a broken key striking out leaves and does not.
+const LEAST_HALF_DRAWN: usize = 200;
+const LEAST_BY_23: usize = 2_000;
+const LEAST_PARENTS_ENTERED: usize = 50;
+
 pub fn run(r: &mut Random, report: &mut Report) {
     let mut replay = Replay::new();
     let mut outcome = Ok(());
@@ -30,6 +36,11 @@ pub fn run(r: &mut Random, report: &mut Report) {
         "{} calls write half-filled keys of MATCH FULL, {} left by striking out",
         replay.half_filling, replay.half_filling_left
     );
+    println!(
+        "{} lists on schemas with broken keys: {} calls refused by 23; {} enter rows of a broken \
+         key's parent, {} left by striking out",
+        replay.half_drawn, replay.refused_by_23, replay.parents_entered, replay.parents_left
+    );
     report.test("lists replayed", outcome);
     report.at_least("lists", LEAST_LISTS, replay.lists);
     report.at_least(
@@ -38,6 +49,7 @@ pub fn run(r: &mut Random, report: &mut Report) {
         replay.open,
     );
     report_struck(report, &replay);
+    report_broken(report, &replay);
 }
 
 /// What striking out left, and what it did not.
@@ -58,5 +70,18 @@ fn report_struck(report: &mut Report, replay: &Replay) {
         ),
     ] {
         report.at_least(&format!("calls of {}", name), least, count);
+    }
+}
+
+/// What was met on schemas with broken keys.
+fn report_broken(report: &mut Report, replay: &Replay) {
+    let struck = replay.parents_entered - replay.parents_left;
+    for (name, least, count) in [
+        ("lists on broken keys", LEAST_HALF_DRAWN, replay.half_drawn),
+        ("calls refused by 23", LEAST_BY_23, replay.refused_by_23),
+        ("parents left", LEAST_PARENTS_ENTERED, replay.parents_left),
+        ("parents struck", LEAST_PARENTS_ENTERED, struck),
+    ] {
+        report.at_least(&format!("replayed: {}", name), least, count);
     }
 }

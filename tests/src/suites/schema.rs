@@ -3,14 +3,17 @@
 use crate::counts::Counts;
 use crate::differences::hex;
 use crate::engine::{Built, Engine};
+use crate::model::schema::{Match, Schema};
 use crate::random::Random;
 use crate::report::Report;
-use crate::schema_bytes::breaks::{self, Break};
+use crate::schema_bytes::breaks;
+use crate::schema_bytes::half_drawn::{break_one, WAYS};
 use crate::schema_bytes::mistakes::{self, Mistake};
+use crate::schema_bytes::records;
 use crate::schema_bytes::rules::Rules;
 use crate::schema_bytes::slices::{Family, FAMILIES};
 use crate::schema_bytes::valid::any_valid;
-use crate::schema_bytes::view::View;
+use crate::trials::broken_by;
 
 /// How often each break is made.
 const BREAK_TURNS: usize = 200;
@@ -35,11 +38,16 @@ pub fn run(r: &mut Random, report: &mut Report) {
     let mut judge = Judge {
         model: Rules::of_the_paper(),
         mistakes: mistakes::all(),
-        codes: [0; 3],
+        codes: [0; 2],
         keys: Counts::default(),
+        broken: Counts::default(),
     };
-    for one in breaks::all() {
-        report.test(one.0, judge.run_break(&one, r));
+    for (name, code, change) in breaks::all() {
+        report.test(name, judge.run_break((code, false), change, r));
+    }
+    for way in WAYS {
+        let outcome = judge.run_break((0, true), |s, r| break_one(s, way, r), r);
+        report.test(&format!("half-drawn: {}", way.0), outcome);
     }
     for family in FAMILIES {
         report.test(family.name, judge.run_family(family, r));
@@ -50,6 +58,11 @@ pub fn run(r: &mut Random, report: &mut Report) {
         LEAST_OF_A_CODE,
         &judge.keys.of(FORMS),
     );
+    report.counts(
+        "accepted broken foreign keys",
+        LEAST_OF_A_CODE,
+        &judge.broken.of(broken_by::CAUSES),
+    );
     judge.count_mistakes(report);
 }
 
@@ -58,14 +71,23 @@ type Outcome = Result<(), String>;
 struct Judge {
     model: Rules,
     mistakes: Vec<Mistake>,
-    /// How many slices had the code 0, 1 or 2.
-    codes: [usize; 3],
+    /// How many slices had the code 0 or 1.
+    codes: [usize; 2],
     /// How many foreign keys of accepted slices had each form.
     keys: Counts<&'static str>,
+    /// How many of them were broken, by what breaks them.
+    broken: Counts<&'static str>,
 }
 
 impl Judge {
-    fn run_break(&mut self, (_, code, change): &Break, r: &mut Random) -> Outcome {
+    /// Makes a change of valid schemas after which they have this code and, accepted, a broken key or
+    /// none.
+    fn run_break(
+        &mut self,
+        (code, broken): (i64, bool),
+        change: impl Fn(&mut records::Schema, &mut Random),
+        r: &mut Random,
+    ) -> Outcome {
         let mut outcome = Ok(());
         let mut turns = 0;
         for _ in 0..100 * BREAK_TURNS {
@@ -77,8 +99,16 @@ impl Judge {
             change(&mut schema, r);
             let bytes = schema.bytes();
             if bytes != before {
-                self.judge(&bytes, Some(*code), &mut outcome);
+                self.judge(&bytes, Some(code), &mut outcome);
                 turns += 1;
+                let read = Schema::read(&bytes);
+                if read.map_or(false, |schema| schema.any_broken() != broken) {
+                    return Err(format!(
+                        "broken keys expected: {}; bytes {}",
+                        broken,
+                        hex(&bytes)
+                    ));
+                }
             }
             if turns == BREAK_TURNS {
                 return outcome;
@@ -100,10 +130,8 @@ impl Judge {
     fn judge(&mut self, bytes: &[u8], expected: Option<i64>, outcome: &mut Outcome) {
         let code = self.model.code(bytes);
         self.codes[code as usize] += 1;
-        if code == 0 {
-            let s = View(bytes);
-            let form = |k: usize| FORMS[4 * s.key_byte(k, 14) + s.count(k) - 1];
-            (0..s.keys()).for_each(|k| self.keys.add(form(k)));
+        if let Ok(schema) = Schema::read(bytes) {
+            self.count_keys(&schema);
         }
         for mistake in self.mistakes.iter_mut().filter(|m| !m.caught) {
             mistake.caught = (mistake.code)(bytes) != code;
@@ -121,17 +149,28 @@ impl Judge {
         }
     }
 
+    /// Counts the foreign keys of an accepted slice.
+    fn count_keys(&mut self, schema: &Schema) {
+        for key in &schema.keys {
+            let of_match = 4 * usize::from(key.matching == Match::Full);
+            self.keys.add(FORMS[of_match + key.child_columns.len() - 1]);
+            if key.broken {
+                let by = broken_by::of(schema, key).into_iter();
+                by.for_each(|name| self.broken.add(name));
+            }
+        }
+    }
+
     fn count_codes(&self, report: &mut Report) {
-        let [accepted, first, second] = self.codes;
-        let all = accepted + first + second;
+        let [accepted, refused] = self.codes;
+        let all = accepted + refused;
         println!(
-            "{} slices: {} accepted, {} refused by 1, {} refused by 2",
-            all, accepted, first, second
+            "{} slices: {} accepted, {} refused by 1",
+            all, accepted, refused
         );
         report.at_least("slices", LEAST_SLICES, all);
         report.at_least("accepted slices", LEAST_OF_A_CODE, accepted);
-        report.at_least("slices refused by 1", LEAST_OF_A_CODE, first);
-        report.at_least("slices refused by 2", LEAST_OF_A_CODE, second);
+        report.at_least("slices refused by 1", LEAST_OF_A_CODE, refused);
     }
 
     fn count_mistakes(&self, report: &mut Report) {

@@ -1,5 +1,6 @@
 //! The built engine against stock SQLite.
 
+use super::sqlite_broken;
 use crate::engine::{Answer, Built, Engine};
 use crate::inputs::calls::row_call;
 use crate::inputs::grounds::Ground;
@@ -40,6 +41,12 @@ const SITUATIONS: &[&str] = &[
     "old values but for the last",
 ];
 
+/// How many calls on schemas with broken keys are refused by 23 and by SQLite, how many are accepted
+/// and change rows, and how many of these enter rows into the parent table of a broken key.
+const LEAST_BY_23: usize = 1_000;
+const LEAST_BESIDE_BROKEN: usize = 300;
+const LEAST_PARENTS_ENTERED: usize = 10;
+
 /// How many orphan lists there are to be, and how many with orphans.
 const LEAST_LISTS: usize = 10_000;
 const LEAST_WITH_ORPHANS: usize = 1_000;
@@ -52,13 +59,14 @@ pub fn run(r: &mut Random, report: &mut Report) {
     }
     println!(
         "{} calls compared with SQLite {}: {} accepted, {} of them by a miscount of its own; \
-         left out: {} by order, {} by limits",
+         left out: {} by order, {} by limits, {} by broken keys",
         alike.calls,
         version(),
         alike.accepted,
         alike.miscounted,
         alike.by_order,
-        alike.by_limit
+        alike.by_limit,
+        alike.by_statement
     );
     report.test("calls and orphan lists compared with SQLite", outcome);
     report.at_least("calls sent to SQLite", LEAST_CALLS, alike.calls);
@@ -69,6 +77,8 @@ pub fn run(r: &mut Random, report: &mut Report) {
     report_searches(report, &alike);
     report_actions(report, &alike);
     report_lists(report, &alike);
+    report_broken(report, &alike);
+    sqlite_broken::run(report);
     let name = "SQLite does not enforce MATCH FULL";
     report.test(name, match_full_passes());
 }
@@ -125,4 +135,27 @@ fn report_lists(report: &mut Report, alike: &Alike) {
         LEAST_WITH_ORPHANS,
         alike.with_orphans,
     );
+}
+
+fn report_broken(report: &mut Report, alike: &Alike) {
+    println!(
+        "on schemas with broken keys: {} refused by 23 and by SQLite, {} accepted that change rows, \
+         {} of them enter rows of a broken key's parent",
+        alike.refused_by_23, alike.beside_broken, alike.parents_entered
+    );
+    for (name, least, count) in [
+        ("refused by 23", LEAST_BY_23, alike.refused_by_23),
+        (
+            "beside broken keys",
+            LEAST_BESIDE_BROKEN,
+            alike.beside_broken,
+        ),
+        (
+            "that enter parents",
+            LEAST_PARENTS_ENTERED,
+            alike.parents_entered,
+        ),
+    ] {
+        report.at_least(&format!("calls of SQLite {}", name), least, count);
+    }
 }

@@ -76,8 +76,9 @@ impl<'a> OfKey<'a> {
         }
     }
 
+    /// Whether it is of MATCH FULL and has orphans: it is not broken.
     pub fn is_match_full(&self) -> bool {
-        self.key.matching == Match::Full
+        self.key.matching == Match::Full && !self.key.broken
     }
 
     /// How many child rows are in this state before the call, and after it.
@@ -91,6 +92,9 @@ impl<'a> OfKey<'a> {
     pub fn kept_after(&self) -> i64 {
         let halves = self.count(State::HalfFilled);
         let parentless = self.count(State::Parentless);
+        if self.key.broken {
+            return self.kept;
+        }
         let by_halves = if self.is_match_full() {
             halves.1 - halves.0
         } else {
@@ -133,7 +137,8 @@ impl<'a> OfKey<'a> {
 }
 
 fn parents(key: &Key, before: &Area, after: &Area) -> Vec<Parent> {
-    let rows = 0..before.schema.tables[key.parent].rows;
+    let parent = before.schema.tables.get(key.parent);
+    let rows = 0..parent.map_or(0, |table| table.rows);
     let of = |area: &Area, number| area.row(key.parent, number).map(|row| key.parent_key(&row));
     rows.map(|number| (of(before, number), of(after, number)))
         .collect()

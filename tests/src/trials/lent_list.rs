@@ -7,7 +7,7 @@ use crate::model::Model;
 use crate::random::Random;
 
 /// The codes that a list can be answered by.
-pub const CODES: &[i64] = &[0, 1, 2, 3, 10, 22];
+pub const CODES: &[i64] = &[0, 1, 3, 10, 22];
 
 /// How many records are lent for so many orphans: as many, one more, one fewer, many more, any
 /// number about that, none.
@@ -29,7 +29,7 @@ pub struct LentLists {
 /// What was compared.
 pub struct Compared {
     pub code: i64,
-    /// The model's orphans: none where it refuses by 1, 2, 3 or 10.
+    /// The model's orphans: none where it refuses by 1, 3 or 10.
     pub orphans: Vec<Orphan>,
     /// How many records were lent.
     pub room: usize,

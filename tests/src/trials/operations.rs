@@ -7,9 +7,8 @@ use super::searches::Searches;
 use crate::counts::Counts;
 use crate::differences::{hex, words};
 use crate::engine::Engine;
-use crate::inputs::broken::broken;
 use crate::inputs::grounds::{self, Ground};
-use crate::inputs::{areas, calls, damages, malformed};
+use crate::inputs::{areas, broken_key_calls, damages, malformed, other_schemas};
 use crate::model::Model;
 use crate::random::Random;
 
@@ -41,7 +40,7 @@ impl Operations {
     pub fn trial(&mut self, engine: &dyn Engine, r: &mut Random) -> Outcome {
         let (ground, mut area, turns, origin) = start(r);
         for _ in 0..turns {
-            let mut call = calls::any(r, &ground, &area);
+            let mut call = broken_key_calls::now_and_then(r, &ground, &area);
             if r.once_in(8) {
                 call = malformed::spoiled(r, &ground, call);
             }
@@ -54,7 +53,7 @@ impl Operations {
     /// Operations that leave the area of the trial as it is.
     fn beside(&mut self, engine: &dyn Engine, r: &mut Random, g: &Ground, area: &[i64]) -> Outcome {
         let damaged = damages::damaged(r, g, area);
-        let call = calls::any(r, g, &damaged);
+        let call = broken_key_calls::now_and_then(r, g, &damaged);
         self.call(engine, (&g.bytes, &damaged, &call), Origin::Damaged)?;
         if r.once_in(10) {
             let area = damages::of_wrong_length(r, area);
@@ -63,7 +62,7 @@ impl Operations {
             self.lists.compare(engine, r, &g.bytes, &area)?;
         }
         if r.once_in(10) {
-            let schema = broken(r, g);
+            let schema = other_schemas::altered(r, g);
             self.call(engine, (&schema, area, &call), Origin::Damaged)?;
             self.fresh(engine, &schema, area)?;
             self.lists.compare(engine, r, &schema, area)?;

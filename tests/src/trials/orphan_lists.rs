@@ -6,9 +6,8 @@ use super::origins::Origin;
 use super::situations;
 use crate::counts::Counts;
 use crate::engine::Engine;
-use crate::inputs::broken::broken;
 use crate::inputs::grounds::Ground;
-use crate::inputs::{areas, calls, damages, orphan_grounds};
+use crate::inputs::{areas, calls, damages, orphan_grounds, other_schemas};
 use crate::model::area::Area;
 use crate::random::Random;
 
@@ -63,7 +62,7 @@ impl OrphanLists {
         Ok(())
     }
 
-    /// Lists on damaged copies of an area, on one of another length, and with a broken schema.
+    /// Lists on damaged copies of an area, on one of another length, and with other schema bytes.
     fn on_altered(
         &mut self,
         engine: &dyn Engine,
@@ -78,8 +77,8 @@ impl OrphanLists {
         let of_wrong_length = damages::of_wrong_length(r, area);
         self.lists
             .compare(engine, r, &ground.bytes, &of_wrong_length)?;
-        let broken = broken(r, ground);
-        self.lists.compare(engine, r, &broken, area)?;
+        let altered = other_schemas::altered(r, ground);
+        self.lists.compare(engine, r, &altered, area)?;
         Ok(())
     }
 

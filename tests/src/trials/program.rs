@@ -2,7 +2,7 @@
 
 use crate::engine::Engine;
 use crate::inputs::grounds::{self, Ground};
-use crate::inputs::{half_filled_calls, malformed};
+use crate::inputs::{malformed, mixed_calls};
 use crate::model::program::schema_length;
 use crate::model::Model;
 use crate::random::Random;
@@ -83,7 +83,7 @@ fn random_calls(r: &mut Random, ground: &Ground, count: usize) -> Vec<u8> {
     let mut area = ground.fresh();
     let mut bytes = Vec::new();
     for _ in 0..count {
-        let mut call = half_filled_calls::now_and_then(r, ground, &area);
+        let mut call = mixed_calls::any(r, ground, &area);
         if r.once_in(20) {
             call = malformed::spoiled(r, ground, call);
             call.resize(12, 0);

@@ -5,7 +5,7 @@ use crate::differences::{first_words, hex};
 use crate::engine::{Answer, Engine};
 use crate::inputs::calls::plain_call;
 use crate::inputs::grounds::{self, Ground};
-use crate::inputs::{half_filled_calls, malformed};
+use crate::inputs::{malformed, mixed_calls};
 use crate::model::area::Area;
 use crate::model::keys::orphan_counts;
 use crate::model::schema::{Key, Match, Schema};
@@ -28,6 +28,12 @@ pub struct Replay {
     /// How many accepted calls wrote half-filled keys of MATCH FULL, and how many were left.
     pub half_filling: usize,
     pub half_filling_left: usize,
+    /// How many lists were on schemas with broken keys, how many calls were refused by 23, and how
+    /// many entered rows into the parent table of a broken key and were left, or not.
+    pub half_drawn: usize,
+    pub refused_by_23: usize,
+    pub parents_entered: usize,
+    pub parents_left: usize,
 }
 
 /// A list of calls and the answers to it.
@@ -50,6 +56,10 @@ impl Replay {
             open: 0,
             half_filling: 0,
             half_filling_left: 0,
+            half_drawn: 0,
+            refused_by_23: 0,
+            parents_entered: 0,
+            parents_left: 0,
         }
     }
 
@@ -70,6 +80,7 @@ impl Replay {
         self.searches_left += searches_left.count();
         self.open += usize::from(run.area[0] != 0);
         self.count_half_filling(&ground.schema, &run, &left);
+        self.count_broken(&ground.schema, &run, &left);
         second_run(engine, &ground, &run, &left)
     }
 
@@ -78,6 +89,15 @@ impl Replay {
         let half_filling = |number: &usize| half_fills(schema, &run.calls[*number]);
         self.half_filling += accepted.filter(half_filling).count();
         self.half_filling_left += left.iter().copied().filter(half_filling).count();
+    }
+
+    fn count_broken(&mut self, schema: &Schema, run: &Run, left: &[usize]) {
+        let enters = |number: &usize| enters_parent(schema, &run.calls[*number]);
+        let accepted = (0..run.calls.len()).filter(|&number| run.codes[number] == 0);
+        self.half_drawn += usize::from(schema.any_broken());
+        self.refused_by_23 += run.codes.iter().filter(|&&code| code == 23).count();
+        self.parents_entered += accepted.filter(enters).count();
+        self.parents_left += left.iter().copied().filter(enters).count();
     }
 
     /// Runs a random list. The codes are those of the model, which runs beside; after each call the
@@ -91,7 +111,7 @@ impl Replay {
         let (mut area, mut beside) = (made_fresh(engine, ground)?, ground.fresh());
         let (mut calls, mut codes, mut answers) = (Vec::new(), Vec::new(), Vec::new());
         for _ in 0..r.between(20, 200) {
-            let mut call = half_filled_calls::now_and_then(r, ground, &beside);
+            let mut call = mixed_calls::any(r, ground, &beside);
             if r.once_in(25) {
                 call = malformed::spoiled(r, ground, call);
             }
@@ -151,6 +171,12 @@ fn half_fills(schema: &Schema, call: &[i64]) -> bool {
     let of_table = |key: &&Key| key.child as i64 == call[1] && key.matching == Match::Full;
     let mut keys = schema.keys.iter().filter(of_table);
     matches!(call[0], 1 | 2) && keys.any(is_half_filled)
+}
+
+/// Whether an accepted call enters a row into the parent table of a broken key.
+fn enters_parent(schema: &Schema, call: &[i64]) -> bool {
+    let is_parent = |key: &Key| key.broken && key.parent as i64 == call[1];
+    call[0] == 1 && schema.keys.iter().any(is_parent)
 }
 
 /// Sends a commit on a copy of the area. Accepted, it leaves no transaction; refused, it writes

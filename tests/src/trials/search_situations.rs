@@ -7,7 +7,7 @@ use crate::model::schema::{Row, Value};
 use crate::model::search::{self, Search};
 use crate::model::statement;
 
-/// A statement that was compared. It was not refused by 1, 2, 3, 4 or 10.
+/// A statement that was compared. It was not refused by 1, 3, 4 or 10.
 pub struct Seen<'a> {
     search: &'a Search,
     /// The area when it began.

@@ -12,7 +12,7 @@ use crate::model::schema::Schema;
 use crate::model::search::Search;
 
 /// The codes that such a call can be answered by.
-pub const CODES: &[i64] = &[0, 1, 2, 3, 4, 10, 14, 15, 16, 17, 18, 19, 20];
+pub const CODES: &[i64] = &[0, 1, 3, 4, 10, 14, 15, 16, 17, 18, 19, 20, 23];
 
 /// How many rows an accepted call changes.
 pub const CHANGED: &[&str] = &["none", "one", "two or more"];
@@ -70,10 +70,10 @@ impl Searches {
         if answer.code == 0 {
             of_kind.changed.add(how_many(answer.changed));
         }
-        if matches!(answer.code, 1..=3 | 10) {
+        if matches!(answer.code, 1 | 3 | 10) {
             return;
         }
-        let schema = Schema::read(schema).expect("it was not refused by 1 or 2");
+        let schema = Schema::read(schema).expect("it was not refused by 1");
         match form::broken(&self.rules, &schema, call) {
             Some(condition) => of_kind.broken.add(condition),
             None => self.count_situations(&schema, area, &Search::read(call), answer.code, origin),

@@ -29,6 +29,10 @@ pub const SITUATIONS: &[Situation] = &[
     ("a key without orphans between others", |s| {
         s.keys.windows(2).any(|pair| pair[0] + 1 < pair[1])
     }),
+    ("a broken key between keys with orphans", |s| {
+        let mut pairs = s.keys.windows(2);
+        pairs.any(|pair| (pair[0]..pair[1]).any(|number| s.key(number).broken))
+    }),
     ("a row under several keys", row_under_several_keys),
     ("equal keys", |s| s.any_two_keys(refer_alike)),
     ("a self-referring key", |s| {
@@ -80,7 +84,7 @@ pub const SITUATIONS: &[Situation] = &[
     ("no record for none", |s| s.orphans == 0 && s.room == 0),
 ];
 
-/// The names of the situations that a list shows. It was not refused by 1, 2, 3 or 10.
+/// The names of the situations that a list shows. It was not refused by 1, 3 or 10.
 pub fn of(area: &Area, compared: &Compared) -> Vec<&'static str> {
     let orphans = &compared.orphans;
     let list = match compared.code {

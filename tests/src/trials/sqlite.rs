@@ -5,20 +5,22 @@
 //! order or in another order of foreign keys or of rows, refuses it by a limit (13, 14, 15), or
 //! where another order gives another outcome. Among statements for many rows that leaves out those
 //! in which the change of one row decides about another: SQLite lists the rows first, then changes
-//! those that are still there, whatever they hold by then.
+//! those that are still there, whatever they hold by then. Calls that SQLite judges otherwise
+//! because of a broken foreign key are left out too.
 //! SQLite lists orphans in a sequence of its own: they are sorted, and the engine's are taken as
 //! they come.
 
 use super::origins::Origin;
 use super::searches::{how_many, is_search};
+use super::sqlite_statements;
 use super::walks::Walks;
 use crate::counts::Counts;
 use crate::differences::hex;
 use crate::engine::{Answer, Engine, Orphan};
 use crate::inputs::grounds::{self, Ground};
-use crate::inputs::{calls, herds};
+use crate::inputs::{broken_key_calls, broken_keys, calls, herds};
 use crate::model::area::Area;
-use crate::model::form;
+use crate::model::form::{self, Call};
 use crate::model::keys::having;
 use crate::model::rules::Rules;
 use crate::model::schema::{Key, Row};
@@ -47,6 +49,13 @@ pub struct Alike {
     pub walks: Walks,
     pub by_order: usize,
     pub by_limit: usize,
+    /// How many calls were left out because of a broken key.
+    pub by_statement: usize,
+    /// How many calls on schemas with broken keys were compared: refused by 23, accepted, and among
+    /// these inserts into the parent table of a broken key.
+    pub refused_by_23: usize,
+    pub beside_broken: usize,
+    pub parents_entered: usize,
     /// How many calls SQLite accepted by a miscount of its own.
     pub miscounted: usize,
     /// How many orphan lists were compared, and how many of them had orphans.
@@ -66,6 +75,10 @@ impl Alike {
             walks: Walks::new(),
             by_order: 0,
             by_limit: 0,
+            by_statement: 0,
+            refused_by_23: 0,
+            beside_broken: 0,
+            parents_entered: 0,
             miscounted: 0,
             lists: 0,
             with_orphans: 0,
@@ -74,10 +87,10 @@ impl Alike {
 
     /// One list of calls on a new database and a fresh area. SQLite has no other match than SIMPLE.
     pub fn trial(&mut self, engine: &dyn Engine, r: &mut Random) -> Outcome {
-        let ground = if r.once_in(3) {
-            herds::ground(r)
-        } else {
-            grounds::collisions(r)
+        let ground = match r.between(0, 6) {
+            0 => broken_keys::ground(r),
+            1 | 2 => herds::ground(r),
+            _ => grounds::collisions(r),
         };
         let ground = ground.of_match_simple();
         let mut database = Database::new(&ground.schema);
@@ -87,7 +100,7 @@ impl Alike {
             let call = if r.once_in(3) {
                 calls::leading_to_actions(r, &ground, &beside)
             } else {
-                calls::any(r, &ground, &beside)
+                broken_key_calls::now_and_then(r, &ground, &beside)
             };
             if self.left_out(&ground, &mut beside, &call) {
                 continue;
@@ -127,9 +140,43 @@ impl Alike {
             self.by_order += 1;
             return true;
         }
+        if self.differs_by_broken(ground, beside, call, own.0) {
+            self.by_statement += 1;
+            return true;
+        }
         self.walks
             .count((&ground.bytes, beside, call), own.0, Origin::Reached);
         *beside = own.1;
+        false
+    }
+
+    /// Whether SQLite judges the call otherwise because of a broken key. If not, and there is one, it
+    /// is counted.
+    fn differs_by_broken(
+        &mut self,
+        ground: &Ground,
+        words: &[i64],
+        call: &[i64],
+        answer: Answer,
+    ) -> bool {
+        let schema = &ground.schema;
+        if !schema.any_broken() {
+            return false;
+        }
+        let before = Area {
+            schema,
+            words: words.to_vec(),
+        };
+        let rules = &self.orders[0].rules;
+        let form = form::read(rules, schema, call).expect("the call is well-formed");
+        if sqlite_statements::differs(rules, &before, &form, answer) {
+            return true;
+        }
+        self.refused_by_23 += usize::from(answer.code == 23);
+        self.beside_broken += usize::from(answer.code == 0 && answer.changed > 0);
+        let is_parent = |table| schema.keys.iter().any(|k| k.broken && k.parent == table);
+        let entered = matches!(form, Call::Insert(table, ..) if is_parent(table));
+        self.parents_entered += usize::from(answer.code == 0 && entered);
         false
     }
 
@@ -146,7 +193,11 @@ impl Alike {
         let call = sent.last().expect("a call was sent");
         let answer = engine.call(&ground.bytes, area, call);
         let form = form::read(&self.orders[0].rules, &ground.schema, call);
-        let changed = database.call(&form.expect("the call is well-formed"));
+        let form = form.expect("the call is well-formed");
+        if answer.code == 23 && !database.prevents(&form) {
+            return Err("23, and SQLite prepares the statement".into());
+        }
+        let changed = database.call(&form);
         self.count(call, changed);
         if matches!(answer.code, 20 | 21) && changed.is_some() && miscounted(ground, database) {
             self.miscounted += 1;

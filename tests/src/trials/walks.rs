@@ -42,10 +42,10 @@ impl Walks {
         origin: Origin,
     ) {
         let changes_rows = call.len() == 12 && matches!(call[0], 2 | 3 | 10 | 11);
-        if !changes_rows || !matches!(answer.code, 0 | 14..=18) {
+        if !changes_rows || !matches!(answer.code, 0 | 14..=18 | 23) {
             return;
         }
-        let schema = Schema::read(schema).expect("it was not refused by 1 or 2");
+        let schema = Schema::read(schema).expect("it was not refused by 1");
         if schema.tables.iter().any(|table| table.rows > MOST_ROWS) {
             return;
         }
