@@ -3,18 +3,21 @@
  *
  * Table 0, horses: number. Table 1, trims: number, horse. Table 2, readings: number, horse. Deleting a horse
  * deletes its trims and readings. These may be entered before their horse: the keys are deferred, so each must
- * have one when the transaction is committed. */
+ * have one when the transaction is committed.
+ *
+ * A second book is half drawn: its readings name a sensor, and there is no table of sensors yet. Horses and trims
+ * can be entered meanwhile, readings cannot. */
 #include "hoofbook.h"
 
 #include <inttypes.h>
 #include <stdio.h>
 #include <stdlib.h>
 
-enum { HORSES, TRIMS, READINGS, TABLES };
+enum { HORSES, TRIMS, READINGS, TABLES, SENSORS = TABLES }; /* the sensors are not drawn */
 enum { HORSE_ROWS = 4, TRIM_ROWS = 8, READING_ROWS = 8, MOST_ORPHANS = TRIM_ROWS + READING_ROWS };
 enum { HEADER = 16, TABLE = 80, KEY = 16, KEYS = 2, JOURNAL = 8 };
 enum { KEYS_AT = HEADER + TABLES * TABLE, SCHEMA = KEYS_AT + KEYS * KEY };
-enum { HORSE = 1 }; /* the column of trims and readings that names their horse */
+enum { HORSE = 1 }; /* the column of trims and readings that names their horse, or the readings' sensor */
 enum { DEFERRED = 1, CASCADE = 4 };
 
 static void put16(uint8_t *at, unsigned value)
@@ -48,7 +51,8 @@ static void put_key(uint8_t *at, unsigned child, unsigned parent)
     at[10] = 0;
 }
 
-static void put_schema(uint8_t schema[SCHEMA])
+/* A reading names a row of the table given. */
+static void put_schema(uint8_t schema[SCHEMA], unsigned parent_of_readings)
 {
     const unsigned fields[] = {TABLES, KEYS, HEADER, KEYS_AT, JOURNAL, SCHEMA};
     schema[0] = 0x46;
@@ -61,7 +65,7 @@ static void put_schema(uint8_t schema[SCHEMA])
     put_table(schema + HEADER + TRIMS * TABLE, TRIM_ROWS, 2);
     put_table(schema + HEADER + READINGS * TABLE, READING_ROWS, 2);
     put_key(schema + KEYS_AT, TRIMS, HORSES);
-    put_key(schema + KEYS_AT + KEY, READINGS, HORSES);
+    put_key(schema + KEYS_AT + KEY, READINGS, parent_of_readings);
 }
 
 /* A kit's book: its schema, and the area that it lends to the engine. */
@@ -99,6 +103,14 @@ static const struct step closing[] = {
     {"delete horse 7 and its trims", {HOOFBOOK_DELETE, HORSES, 0}},
 };
 
+/* The key of the readings is broken, which holds up no other table. */
+static const struct step half_drawn[] = {
+    {"insert horse 7", {HOOFBOOK_INSERT, HORSES, 0, 0, 7}},
+    {"insert trim 1 of horse 7", {HOOFBOOK_INSERT, TRIMS, 0, 0, 1, 7}},
+    {"insert reading 1 of sensor 5", {HOOFBOOK_INSERT, READINGS, 0, 0, 1, 5}},
+    {"delete horse 7 and its trim", {HOOFBOOK_DELETE, HORSES, 0}},
+};
+
 static void carry_out(struct book *book, const struct step *steps, size_t count)
 {
     for (const struct step *step = steps; step < steps + count; step++) {
@@ -118,20 +130,30 @@ static void list_orphans(const struct book *book)
         printf("  key %" PRIu64 ", row %" PRIu64 "\n", list[i].foreign_key, list[i].row);
 }
 
-int main(void)
+/* A book with a fresh area. */
+static struct book open_book(unsigned parent_of_readings)
 {
     struct book book = {{0}, NULL, 0};
-    put_schema(book.schema);
+    put_schema(book.schema, parent_of_readings);
     book.words = (size_t)hoofbook_area_words(book.schema, SCHEMA);
     book.area = (int64_t *)calloc(book.words + 1, sizeof *book.area);
     if (book.area == NULL || hoofbook_make_fresh(book.schema, SCHEMA, book.area, book.words) != HOOFBOOK_DONE) {
         fprintf(stderr, "kit: no area\n");
-        free(book.area);
-        return 1;
+        exit(1);
     }
+    return book;
+}
+
+int main(void)
+{
+    struct book book = open_book(HORSES);
     carry_out(&book, entries, sizeof entries / sizeof *entries);
     list_orphans(&book);
     carry_out(&book, closing, sizeof closing / sizeof *closing);
+    free(book.area);
+    book = open_book(SENSORS);
+    printf("half-drawn schema: %" PRId64 "\n", hoofbook_check_schema(book.schema, SCHEMA));
+    carry_out(&book, half_drawn, sizeof half_drawn / sizeof *half_drawn);
     free(book.area);
     return 0;
 }

@@ -14,12 +14,12 @@
 extern "C" {
 #endif
 
-/* Codes. Nothing is written by 1 to 4, 10 to 13, 21 and 22. A call refused by 14 to 20 has all its rows
- * put back, and every journal word past the records in use is zero. */
+/* Codes. Nothing is written by 1, 3, 4, 10 to 13, 21 and 22. A call refused by 14 to 20 or 23 has all its rows
+ * put back, and every journal word past the records in use is zero. A row change is judged by 14, 15, 23, 16 and
+ * 17, in this order. */
 enum hoofbook_code {
     HOOFBOOK_DONE = 0,                 /* carried out */
     HOOFBOOK_SCHEMA_MALFORMED = 1,     /* the schema bytes break a rule */
-    HOOFBOOK_SCHEMA_UNMATCHED = 2,     /* a foreign key's parent columns are no unique key */
     HOOFBOOK_WRONG_LENGTH = 3,         /* the area has not the length that the schema needs */
     HOOFBOOK_BAD_CALL = 4,             /* not twelve words, or a word out of its range */
     HOOFBOOK_DAMAGED = 10,             /* the area's header, levels or journal are at odds */
@@ -35,7 +35,8 @@ enum hoofbook_code {
     HOOFBOOK_ORPHANS_LEFT = 20,        /* after the last row orphans are left: of an immediate key, or
                                         * outside a transaction of any key */
     HOOFBOOK_COMMIT_WITH_ORPHANS = 21, /* commit while a foreign key has orphans */
-    HOOFBOOK_LIST_TOO_SHORT = 22       /* the list has less records than there are orphans */
+    HOOFBOOK_LIST_TOO_SHORT = 22,      /* the list has less records than there are orphans */
+    HOOFBOOK_BROKEN_KEY = 23           /* the row change uses a broken foreign key */
 };
 
 /* Kinds of calls. A call is twelve words: 0 the kind, 1 a, 2 b, 3 the NULL mask, 4 to 11 the values.
@@ -71,31 +72,35 @@ typedef struct {
 } hoofbook_listed;
 
 /* An orphan: a row of the foreign key's child table that has no NULL in its key and no parent row. Under MATCH
- * FULL also a row with some but not all key columns NULL, which no parent row mends. */
+ * FULL also a row with some but not all key columns NULL, which no parent row mends. A broken foreign key has
+ * no orphans. */
 typedef struct {
     uint64_t foreign_key;
     uint64_t row;
 } hoofbook_orphan;
 
-/* 0 where the schema is accepted, else 1 or 2. */
+/* 0 where the schema is accepted, else 1. It may be half drawn: a foreign key is broken if the parent table or a
+ * parent column is not there, or if the parent columns are not exactly those of a unique key. A row change that
+ * inserts or updates a row of its child table, or updates or deletes a row of its parent table, uses it and is
+ * refused by 23; deleting a child row and inserting a parent row do not use it. Its actions never run. */
 int64_t hoofbook_check_schema(const uint8_t *schema, size_t schema_len);
 
 /* The length in words of an area for the schema; 0 where the schema is refused. */
 int64_t hoofbook_area_words(const uint8_t *schema, size_t schema_len);
 
-/* Makes the area fresh; answers the code. */
+/* Makes the area fresh; answers the code: 0, 1 or 3. */
 int64_t hoofbook_make_fresh(const uint8_t *schema, size_t schema_len, int64_t *area, size_t area_len);
 
 /* Carries out a call of twelve words, of one of the eleven kinds, or refuses it. Kinds 10 and 11 go by rising
- * row number and judge each row at its turn, by 14 to 18; 20 is judged once, after the last row. One refused
- * row refuses the whole call; finding no row is no cause to refuse. */
+ * row number and judge each row at its turn, by 14 to 18 and 23; 20 is judged once, after the last row. One
+ * refused row refuses the whole call; finding no row is no cause to refuse. */
 hoofbook_answer hoofbook_call(const uint8_t *schema, size_t schema_len, int64_t *area, size_t area_len,
                               const int64_t *call, size_t call_len);
 
 /* Lists all orphans, by foreign key number, then by rising child row. Each stands once: a row without a
  * parent under two foreign keys is an orphan of each. Records past them keep what they held. Refused by 1,
- * 2, 3, 10 or 22, judged in this order, with nothing written. A record for every row of each foreign key's
- * child table is always enough. */
+ * 3, 10 or 22, judged in this order, with nothing written. A record for every row of each foreign key's child
+ * table is always enough. */
 hoofbook_listed hoofbook_list_orphans(const uint8_t *schema, size_t schema_len, const int64_t *area,
                                       size_t area_len, hoofbook_orphan *list, size_t list_len);
 

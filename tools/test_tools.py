@@ -16,7 +16,9 @@ from booktext.reader import read_text
 from booktext.refusals import REFUSALS
 from booktext.runner import run_hoofrun, run_text
 from booktext.writer import text_of
+from tooltests.broken_keys import check_broken_keys
 from tooltests.checks import Checks, tool
+from tooltests.half_drawn import check_half_drawn
 from tooltests.hoofask import check_build, check_hoofask
 from tooltests.inputs import damaged, whole_input
 from tooltests.many_rows import check_many_rows
@@ -119,7 +121,8 @@ def check_round_trips(checks):
         checks.check(f"round trip of damaged input {number}", returns(damaged(source, data)))
         texts += text
     for start in (
-        r"key .* match full", r"delete \S+ where ", r"update \S+ set ", "words 10 ", "words 11 ",
+        r"key .* match full", r"key .* -> \?", r"key .* -> t\d+\.\S*\?", r"delete \S+ where ",
+        r"update \S+ set ", "words 10 ", "words 11 ",
     ):
         checks.check(f"random inputs with {start}", re.search(f"^{start}", texts, re.MULTILINE))
 
@@ -142,11 +145,10 @@ def check_runs(checks):
     answers, tally = run_hoofrun(PAPER_SCHEMA + calls)
     checks.check("answers of the paper's example", answers == PAPER_ANSWERS)
     checks.check("tally of the paper's example", tally == "accepted,6,refused,2,rows,6")
-    codes = [1, 2, 3, 4, *range(10, 23)]
+    codes = [1, 3, 4, *range(10, 24)]
     checks.check("names of the refusals", sorted(REFUSALS) == codes and all(REFUSALS.values()))
     for text, code in (
         (TABLES.replace("journal 8", "journal 0"), 1),
-        (TABLES.replace("horses.number", "horses.weight"), 2),
         (TABLES.replace("rows 4", "rows 1024").replace("journal 8", "journal 4096"), 3),
         ("bytes\n", 1),
     ):
@@ -158,6 +160,10 @@ def check_runs(checks):
     lines = shown.splitlines()[-3:]
     checks.check("a call beside its answer", lines[0].split("open")[1].split() == ["0"] * 3, shown)
     checks.check("a short last call", lines[1].endswith("     4     0     0  call malformed"), shown)
+    call = "insert trims 0 number=11 horse=null"
+    shown = run_text(TABLES.replace("> horses.number", "> ?yards.?name") + call + "\n")
+    line = f"\n{call}{23:6}{0:6}{0:6}  broken key\n"
+    checks.check("a broken key beside the first call", line in shown and "the schema" not in shown, shown)
 
 
 def check_commands(checks):
@@ -224,7 +230,8 @@ def main():
     checks = Checks()
     for run in (
         check_build, check_encoding, check_round_trips, check_mistakes, check_many_rows, check_matches,
-        check_runs, check_hoofask, check_orphans, check_commands, check_command_faults, check_blocks,
+        check_half_drawn, check_broken_keys, check_runs, check_hoofask, check_orphans, check_commands,
+        check_command_faults, check_blocks,
     ):
         try:
             run(checks)

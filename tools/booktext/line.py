@@ -2,7 +2,7 @@
 
 import re
 
-WORD = re.compile(r"->|-?[0-9]+|[A-Za-z_][A-Za-z0-9_]*|[(),.=]")
+WORD = re.compile(r"->|-?[0-9]+|[A-Za-z_][A-Za-z0-9_]*|[(),.=?]")
 BLANKS = re.compile(r"\s*")
 LONGEST_NUMBER = 20  # characters of the least 64-bit number
 
@@ -39,7 +39,7 @@ class Line:
         while at < len(self.text):
             word = WORD.match(self.text, at)
             if not word:
-                self.fail(f"expected a name, a number or one of -> ( ) , . =, found {self.text[at]!r}")
+                self.fail(f"expected a name, a number or one of -> ( ) , . = ?, found {self.text[at]!r}")
             self.words.append(word.group())
             at = BLANKS.match(self.text, word.end()).end()
 

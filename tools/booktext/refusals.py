@@ -2,7 +2,6 @@
 
 REFUSALS = {
     1: "schema malformed",
-    2: "parent columns are no unique key",
     3: "area over 8,192 words",
     4: "call malformed",
     10: "area damaged",
@@ -18,6 +17,7 @@ REFUSALS = {
     20: "orphans left",
     21: "commit with orphans",
     22: "orphan list too short",
+    23: "broken key",
 }
 
 

@@ -12,7 +12,7 @@ OUTPUT = re.compile(
     r"(?P<tally>accepted,[0-9]+,refused,[0-9]+,rows,[0-9]+)\n"
 )
 
-SCHEMA_REFUSALS = (1, 2, 3)
+SCHEMA_REFUSALS = (1, 3)
 
 
 def run_hoofrun(data):

@@ -39,10 +39,14 @@ class Table:
         names = [column.name for column in self.columns]
         return names.index(name) if name in names else None
 
+    def column_name(self, number):
+        """The name of the column with this number; one that is not drawn is ? and its number."""
+        return self.columns[number].name if number < len(self.columns) else undrawn_name(number)
+
 
 @dataclass
 class ForeignKey:
-    """A foreign key; tables, columns, actions and the match are numbers."""
+    """A foreign key; tables, columns, actions and the match are numbers. Its parent may not be drawn."""
 
     child: int
     child_columns: list
@@ -67,6 +71,10 @@ class Schema:
         names = [table.name for table in self.tables]
         return names.index(name) if name in names else None
 
+    def parent_table(self, number):
+        """The table with this number; one that is not drawn has no columns."""
+        return self.tables[number] if number < len(self.tables) else Table(undrawn_name(number), 0)
+
     def length(self):
         """The number of schema bytes."""
         return HEADER.size + TABLE.size * len(self.tables) + FOREIGN_KEY.size * len(self.keys)
@@ -74,6 +82,11 @@ class Schema:
     def fits(self):
         """Whether the length goes into 16 bits, and each table's number into a byte."""
         return self.length() < 1 << 16 and len(self.tables) <= 256
+
+
+def undrawn_name(word):
+    """How a table or column that is not drawn is written: by a name or by its number."""
+    return f"?{word}"
 
 
 def mask_of(columns):
@@ -138,15 +151,12 @@ def read_key(record):
 
 
 def has_names(schema, key):
-    """Whether the key has columns, and each table, column, action and match that it says has a name."""
-    tables = len(schema.tables)
-    if not key.child_columns or key.child >= tables or key.parent >= tables:
+    """Whether the key has columns, those of the child are drawn, and actions and match have names."""
+    if not key.child_columns or key.child >= len(schema.tables):
         return False
     if max(key.on_delete, key.on_update) >= len(ACTIONS) or key.match >= len(MATCHES):
         return False
-    children = len(schema.tables[key.child].columns)
-    parents = len(schema.tables[key.parent].columns)
-    return max(key.child_columns) < children and max(key.parent_columns) < parents
+    return max(key.child_columns) < len(schema.tables[key.child].columns)
 
 
 def read_schema(data):

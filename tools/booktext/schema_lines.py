@@ -2,9 +2,10 @@
 
 from .calls import LEAST_WORD, MOST_WORD
 from .schema import ACTIONS, MATCHES, MOST_COLUMNS, MOST_KEY_COLUMNS, MOST_UNIQUE
-from .schema import Column, ForeignKey, Table
+from .schema import Column, ForeignKey, Table, undrawn_name
 
 FIELD_MOST = (1 << 16) - 1  # rows and journal room are 16-bit fields
+NUMBER_MOST = 255  # a foreign key's tables and columns are bytes
 
 
 class SchemaLines:
@@ -13,6 +14,8 @@ class SchemaLines:
     def __init__(self, schema):
         self.schema = schema
         self.table = None  # the table that column and unique lines belong to
+        self.undrawn_tables = []  # names; the first has the number past the drawn tables
+        self.undrawn_columns = {}  # of each parent table by number: likewise
         self.verbs = {
             "table": self.read_table,
             "column": self.read_column,
@@ -35,6 +38,8 @@ class SchemaLines:
             line.fail(f"expected a new name, but there is a table {name} already")
         line.require("rows")
         self.table = Table(name, line.number("the number of rows", 0, FIELD_MOST))
+        if any(key.parent >= len(self.schema.tables) for key in self.schema.keys):
+            line.fail("expected every table above the first key to a table that is not drawn")
         self.schema.tables.append(self.table)
 
     def read_column(self, line):
@@ -73,9 +78,9 @@ class SchemaLines:
     def read_key(self, line):
         """key TABLE.COLUMN -> TABLE.COLUMN and its clauses"""
         self.table = None
-        child, child_columns = self.read_side(line)
+        child, child_columns = self.read_child(line)
         line.require("->")
-        parent, parent_columns = self.read_side(line)
+        parent, parent_columns = self.read_parent(line)
         wanted, found = len(child_columns), len(parent_columns)
         if wanted != found:
             line.fail(f"expected as many parent columns as child columns, {wanted}, found {found}")
@@ -83,11 +88,28 @@ class SchemaLines:
         read_clauses(line, key)
         self.schema.keys.append(key)
 
-    def read_side(self, line):
+    def read_child(self, line):
         """TABLE.COLUMN or TABLE.(COLUMN, ...)"""
         number = read_table_name(line, self.schema)
         line.require(".")
         return number, read_columns(line, self.schema.tables[number], MOST_KEY_COLUMNS)
+
+    def read_parent(self, line):
+        """Likewise; a table or column that is not drawn is ?NAME or ?NUMBER"""
+        number, table = self.read_parent_table(line)
+        line.require(".")
+        undrawn = self.undrawn_columns.setdefault(number, [])
+        return number, read_columns(line, table, MOST_KEY_COLUMNS, undrawn)
+
+    def read_parent_table(self, line):
+        """The number of a parent table, and the table; one that is not drawn has no columns."""
+        if not line.accept("?"):
+            number = read_table_name(line, self.schema)
+            return number, self.schema.tables[number]
+        word = line.peek()
+        drawn = [table.name for table in self.schema.tables]
+        number = read_undrawn(line, "a table", drawn, self.undrawn_tables)
+        return number, Table(undrawn_name(word), 0)
 
     def read_journal(self, line):
         """journal J"""
@@ -123,13 +145,40 @@ def read_column_name(line, table):
     return number
 
 
-def read_columns(line, table, most):
-    """COLUMN or (COLUMN, ...): the numbers of columns of a table."""
+def read_undrawn(line, what, drawn, undrawn):
+    """The number of what is not drawn, after its ?: a number past the drawn ones, or a name.
+
+    Names get the numbers past the drawn ones in turn, and the same name the same number.
+    """
+    if line.at_number():
+        return line.number(f"the number of {what} that is not drawn", len(drawn), NUMBER_MOST)
+    name = line.name("a name or a number after '?'")
+    if name in drawn:
+        line.fail(f"expected {what} that is not drawn after '?', but {name} is drawn")
+    if name not in undrawn:
+        undrawn.append(name)
+    number = len(drawn) + undrawn.index(name)
+    if number > NUMBER_MOST:
+        line.fail(f"expected no more names after '?', the numbers up to {NUMBER_MOST} are taken")
+    return number
+
+
+def read_column(line, table, undrawn):
+    """The number of the column that comes next; undrawn has the names of those that are not drawn."""
+    if undrawn is None or table.columns and line.peek() != "?":
+        return read_column_name(line, table)
+    line.require("?", f"'?' before a column of {table.name}, which has none that is drawn")
+    drawn = [column.name for column in table.columns]
+    return read_undrawn(line, f"a column of {table.name}", drawn, undrawn)
+
+
+def read_columns(line, table, most, undrawn=None):
+    """COLUMN or (COLUMN, ...): the numbers of columns of a table; without undrawn all are drawn."""
     if not line.accept("("):
-        return [read_column_name(line, table)]
-    columns = [read_column_name(line, table)]
+        return [read_column(line, table, undrawn)]
+    columns = [read_column(line, table, undrawn)]
     while line.accept(","):
-        columns.append(read_column_name(line, table))
+        columns.append(read_column(line, table, undrawn))
     line.require(")", "',' or ')'")
     if len(columns) > most:
         line.fail(f"expected at most {most} columns, found {len(columns)}")

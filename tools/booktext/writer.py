@@ -1,4 +1,7 @@
-"""Writes the text that says given bytes; tables are named t0, t1 and so on, columns c0, c1."""
+"""Writes the text that says given bytes; tables are named t0, t1 and so on, columns c0, c1.
+
+Parents of foreign keys that are not drawn are ? and their number.
+"""
 
 from .calls import CALL, call_text, value_text
 from .schema import ACTIONS, HEADER, MATCHES, read_schema
@@ -8,7 +11,7 @@ BYTES_ON_A_LINE = 16
 
 def column_list(table, columns):
     """COLUMN, or (COLUMN, ...) where there are more."""
-    names = ", ".join(table.columns[c].name for c in columns)
+    names = ", ".join(table.column_name(c) for c in columns)
     return names if len(columns) == 1 else f"({names})"
 
 
@@ -42,7 +45,7 @@ def table_lines(table):
 
 def key_ends(schema, key):
     """CHILD.COLUMN -> PARENT.COLUMN of a foreign key."""
-    child, parent = schema.tables[key.child], schema.tables[key.parent]
+    child, parent = schema.tables[key.child], schema.parent_table(key.parent)
     return (
         f"{child.name}.{column_list(child, key.child_columns)}"
         f" -> {parent.name}.{column_list(parent, key.parent_columns)}"

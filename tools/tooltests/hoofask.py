@@ -50,7 +50,7 @@ insert trims 2 number=13 horse=72057594037927937  # 1 in the lowest byte and in 
 EVERY_ORPHAN = "".join(f"{key},{row}\n" for key in range(3) for row in range(4))
 LARGE = TIED.replace("rows 4", "rows 1024").replace("journal 8", "journal 4096")
 MALFORMED = TIED.replace("journal 8", "journal 0")
-UNMATCHED = TIED.replace("> trims.number", "> trims.horse")
+BROKEN = TIED.replace("> trims.number", "> trims.horse")  # key 2
 
 BOOKS = [
     ("orphans of three keys", TIED + UNSORTED, "0,4\n0,1\n0,3\n1,0\n2,0\n"),
@@ -61,7 +61,8 @@ BOOKS = [
     ("no foreign key", "table horses rows 4\n  column number\njournal 8\n", "0,0\n"),
     ("over 8,192 words", LARGE + "begin\ninsert trims 1023 number=1 horse=5\n", "0,1\n0,1023\n"),
     ("a schema refused by 1", MALFORMED + UNSORTED, "1,0\n"),
-    ("a schema refused by 2", UNMATCHED + UNSORTED, "2,0\n"),
+    ("a broken key", BROKEN + UNSORTED, "0,2\n0,1\n0,3\n"),
+    ("a key to no table", TIED.replace("> trims.number", "> ?vets.?name") + UNSORTED, "0,2\n0,1\n0,3\n"),
 ]
 
 

@@ -25,10 +25,13 @@ def table_record(random, columns):
 
 
 def key_record(random, widths):
-    """A foreign key record between two of the tables."""
+    """A foreign key record of a table to a table, or to any numbers, as one that is not drawn has."""
     child, parent = random.randrange(len(widths)), random.randrange(len(widths))
     child_columns = pick_columns(random, widths[child], 4)
     parent_columns = pick_columns(random, widths[parent], 4)
+    if random.random() < 0.2:
+        parent_columns = pick_columns(random, 256, 4)
+        parent = random.choice((parent, random.randrange(256)))
     count = min(len(child_columns), len(parent_columns))
     head = [child, parent, random.randint(0, 1), random.randint(0, 4), random.randint(0, 4), count]
     for columns in (child_columns, parent_columns):

@@ -42,7 +42,11 @@ SCHEMA_MISTAKES = [
     ("\n", 1, "expected a line 'journal N'"),
     ("journal\n", 1, "expected the number of journal records"),
     ("journal 8\n  column x\n", 2, "expected a table line above"),
-    ("table a rows 1 ?\n", 1, "found '?'"),
+    ("table a rows 1 ?\n", 1, "expected the end of the line, found '?'"),
+    ("table a rows 1 !\n", 1, "expected a name, a number or one of -> ( ) , . = ?, found '!'"),
+    ("table ?a rows 1\n", 1, "expected the table's name, found '?'"),
+    ("table a rows 1\n  column ?x\n", 2, "expected the column's name, found '?'"),
+    ("table a rows 1\n  column x\n  unique (x, ?y)\n", 3, "expected a column of a (x), found '?'"),
 ]
 
 KEY_MISTAKES = [
@@ -68,9 +72,40 @@ KEY_MISTAKES = [
     ("key trims.horse -> horses.number deferred on delete cascade", "in this order"),
 ]
 
+UNDRAWN_KEY_MISTAKES = [
+    ("key ?trims.horse -> horses.number", "expected the name of a table (horses, trims), found '?'"),
+    ("key trims.?hoof -> horses.number", "expected a column of trims (number, horse), found '?'"),
+    ("key trims.(horse, ?1) -> horses.number", "expected a column of trims (number, horse), found '?'"),
+    ("key trims.horse -> sensors.number", "the name of a table (horses, trims), found 'sensors'"),
+    ("key trims.horse -> horses.chip", "expected a column of horses (number, weight), found 'chip'"),
+    ("key trims.horse -> 2.0", "expected the name of a table (horses, trims), found '2'"),
+    ("key trims.horse -> ?", "expected a name or a number after '?', found the end of the line"),
+    ("key trims.horse -> ?.?number", "expected a name or a number after '?', found '.'"),
+    ("key trims.horse -> ??sensors.?number", "expected a name or a number after '?', found '?'"),
+    ("key trims.horse -> ?sensors", "expected '.', found the end of the line"),
+    ("key trims.horse -> ?horses.?chip", "a table that is not drawn after '?', but horses is drawn"),
+    ("key trims.horse -> ?1.?0", "the number of a table that is not drawn from 2 to 255, found 1"),
+    ("key trims.horse -> ?256.?0", "the number of a table that is not drawn from 2 to 255, found 256"),
+    ("key trims.horse -> ?-1.?0", "from 2 to 255, found -1"),
+    ("key trims.horse -> ?sensors.number", "expected '?' before a column of ?sensors, which has none"),
+    ("key trims.horse -> ?200.0", "expected '?' before a column of ?200, which has none that is drawn"),
+    ("key trims.horse -> ?sensors.(?hoof, horse)", "'?' before a column of ?sensors, which has none"),
+    ("key trims.horse -> ?sensors.?", "expected a name or a number after '?', found the end"),
+    ("key trims.horse -> ?sensors.?256", "of a column of ?sensors that is not drawn from 0 to 255"),
+    ("key trims.horse -> horses.?number", "of horses that is not drawn after '?', but number is drawn"),
+    ("key trims.horse -> horses.?1", "of a column of horses that is not drawn from 2 to 255, found 1"),
+    ("key trims.horse -> horses.?256", "from 2 to 255, found 256"),
+    ("key trims.horse -> ?sensors.(?horse, ?hoof)", "expected as many parent columns as child columns"),
+    ("key trims.horse -> ?sensors.(?a, ?b, ?c, ?d, ?e)", "expected at most 4 columns, found 5"),
+    ("key trims.horse -> ?sensors.?number drawn", "in this order, each at most once, found 'drawn'"),
+]
+
 CALL_MISTAKES = [
     ("insert", "expected the name of a table"),
     ("insert goats 0 number=1", "expected the name of a table (horses, trims), found 'goats'"),
+    ("insert ?sensors 0 number=1", "expected the name of a table (horses, trims), found '?'"),
+    ("insert trims 0 ?chip=1", "expected a column of trims (number, horse), found '?'"),
+    ("delete ?2 0", "expected the name of a table (horses, trims), found '?'"),
     ("insert trims number=1", "expected a row number, found 'number'"),
     ("insert trims 0 number=1", "expected every column of trims, horse is missing"),
     ("insert trims 0 number=1 horse=2 horse=3", "horse is given twice"),
@@ -122,6 +157,18 @@ WHERE_MISTAKES = [
     ("update trims set horse=6 where horse = 5 6", "expected the end of the line, found '6'"),
 ]
 
+LATE_TABLE = "key trims.horse -> ?sensors.?number\ntable sensors rows 4\n"
+ALL_TABLES = "".join(f"table a{i} rows 1\n" for i in range(255)) + "table b rows 1\n  column x\n"
+ALL_COLUMNS = "table a rows 1\n  column w\n  column x\n  column y\n  column z\n" + "".join(
+    f"key a.(w, x, y, z) -> ?b.(?c{i}, ?c{i + 1}, ?c{i + 2}, ?c{i + 3})\n" for i in range(0, 256, 4)
+)
+
+NUMBER_MISTAKES = [
+    (TABLES.rsplit("journal", 1)[0] + LATE_TABLE, 9, "every table above the first key to a table that"),
+    (ALL_TABLES + "key b.x -> ?c.?x\n", 258, "expected no more names after '?', the numbers up to 255"),
+    (ALL_COLUMNS + "key a.w -> ?b.?d\n", 70, "expected no more names after '?', the numbers up to 255"),
+]
+
 ORDER_MISTAKES = [
     ("begin\n", 1, "expected a line 'journal N' before the first call"),
     ("table a rows 1\nbegin\n", 2, "expected a line 'journal N' before the first call"),
@@ -137,8 +184,9 @@ def all_mistakes():
     """Triples of a text, the line of its mistake and a part of the message."""
     before_journal, at_key = TABLES.rsplit("journal", 1)[0], 8
     yield from SCHEMA_MISTAKES
-    for line, message in KEY_MISTAKES:
+    for line, message in KEY_MISTAKES + UNDRAWN_KEY_MISTAKES:
         yield before_journal + line + "\njournal 8\n", at_key, message
     for line, message in CALL_MISTAKES + WHERE_MISTAKES:
         yield TABLES + "\n# calls\n" + line + "\ncommit\n", 11, message
+    yield from NUMBER_MISTAKES
     yield from ORDER_MISTAKES

@@ -8,7 +8,7 @@ from booktext.reader import read_text
 from booktext.writer import bytes_lines
 
 from .checks import tool
-from .hoofask import MALFORMED, TIED, UNMATCHED, UNSORTED
+from .hoofask import BROKEN, MALFORMED, TIED, UNSORTED
 
 UNSORTED_LIST = """\
 orphans 4
@@ -46,6 +46,13 @@ key 0  readings.(horse, hoof) -> sensors.(horse, hoof)  readings 0
 key 0  readings.(horse, hoof) -> sensors.(horse, hoof)  readings 1
 key 0  readings.(horse, hoof) -> sensors.(horse, hoof)  readings 3
 """
+TRIMS_LIST = """\
+orphans 2
+key 0  trims.horse -> horses.number  trims 1
+key 0  trims.horse -> horses.number  trims 3
+"""
+NO_VETS = BROKEN.replace("key", "key horses.number -> ?vets.?name\nkey", 1) + UNSORTED
+NO_VETS_LIST = TRIMS_LIST.replace("key 0", "key 1")
 ELEVEN_KEYS = (
     "table horses rows 4\n  column number unique\n  column dam\n"
     + "key horses.number -> horses.number\n" * 9
@@ -73,10 +80,11 @@ LISTS = [
     ("a short last call", TIED + UNSORTED + "bytes 08 00 00\n", UNSORTED_LIST),
     ("a composite key", SENSORS, SENSORS_LIST),
     ("a half-filled key", HALF_FILLED, HALF_FILLED_LIST),
+    ("a book with a broken key", BROKEN + UNSORTED, TRIMS_LIST),
+    ("a book with a key to no table", NO_VETS, NO_VETS_LIST),
     ("key numbers of two digits", ELEVEN_KEYS, ELEVEN_KEYS_LIST),
     ("bytes alone", BYTES, BYTES_LIST),
     ("a refused 1", MALFORMED + UNSORTED, "code 1  schema malformed\n"),
-    ("a refused 2", UNMATCHED + UNSORTED, "code 2  parent columns are no unique key\n"),
     ("no bytes", "bytes\n", "code 1  schema malformed\n"),
 ]
 OTHER_PROGRAMS = [
