@@ -7,6 +7,7 @@ import time
 from pathlib import Path
 
 from growth import print_growth
+from half_drawn import HalfDrawn
 from inputs import Yard
 from loads import autocommit, empty_transactions, herd, pedigree, sixteen_tables, transactions
 from loads import trims_text, two_columns_text
@@ -39,6 +40,7 @@ def loads(count):
     yield "match full, autocommit", autocommit(Pairs(pairs_text(600, 900, 64), 17), count)
     half_filled = Pairs(pairs_text(600, 900, 200, deferred="deferred"), 18)
     yield "match full, half-filled", transactions(half_filled, count, 40, True)
+    yield "half-drawn, finished tables", autocommit(HalfDrawn(19, 0), count)
     yield "* 32 equal keys, 900 rows", autocommit(Yard(trims_text(900, 900, 64, keys=32), 7), count)
     two_columns = Yard(two_columns_text(900, 900, 150), 8, yard_column=True)
     yield "* constant first column", autocommit(two_columns, count)
@@ -50,6 +52,7 @@ def loads(count):
     two_columns = Yard(two_columns_text(4, 500, 510), 16, yard_column=True)
     yield "* 500 rows follow, two columns", herd(two_columns, count)
     yield "* one reading or none found", readings(Kit(NUMBER, 15), Kit.single_readings, count)
+    yield "* half-drawn, half refused", autocommit(HalfDrawn(20, 0.5), count)
 
 
 class Sides:

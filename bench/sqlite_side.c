@@ -75,6 +75,15 @@ static sqlite3_stmt *prepared(void) {
     return statement;
 }
 
+// SQLite does not prepare a statement that uses a broken key. There is none then, and its calls are refused.
+static sqlite3_stmt *prepared_unless_broken(void) {
+    static const char broken[] = "foreign key mismatch";
+    sqlite3_stmt *statement;
+    int code = sqlite3_prepare_v3(db, sql, -1, SQLITE_PREPARE_PERSISTENT, &statement, 0);
+    if (code != SQLITE_OK && strncmp(sqlite3_errmsg(db), broken, sizeof broken - 1) != 0) stop(sql);
+    return statement;
+}
+
 // The columns of a mask, in rising order; answers their number.
 static int mask_columns(int mask, uint8_t *columns) {
     int count = 0;
@@ -172,15 +181,15 @@ static void prepare_row_statements(int t) {
     add("INSERT INTO t%d %s?1", t, select ? "SELECT " : "VALUES(");
     for (int c = 0; c < columns; c++) add(",?%d", c + 2);
     if (!select) add(")");
-    row_statements[INSERT][t] = prepared();
+    row_statements[INSERT][t] = prepared_unless_broken();
     sql_start();
     add("UPDATE t%d SET ", t);
     for (int c = 0; c < columns; c++) add("%sc%d=?%d", c ? "," : "", c, c + 2);
     add(" WHERE r=?1");
-    row_statements[UPDATE][t] = prepared();
+    row_statements[UPDATE][t] = prepared_unless_broken();
     sql_start();
     add("DELETE FROM t%d WHERE r=?1", t);
-    row_statements[DELETE][t] = prepared();
+    row_statements[DELETE][t] = prepared_unless_broken();
 }
 
 static sqlite3_stmt *prepare_plain(const char *format, int level) {
@@ -307,6 +316,7 @@ static void bind_value(sqlite3_stmt *statement, int place, int is_null, int64_t 
 // SQLite accepts an update or a delete of a row that is not there; here that is a refusal.
 static int run_row_call(const int64_t *call) {
     sqlite3_stmt *statement = row_statements[call[0]][call[1]];
+    if (!statement) return 0;
     sqlite3_bind_int64(statement, 1, call[2]);
     for (int c = 0; call[0] != DELETE && c < column_count(call[1]); c++)
         bind_value(statement, c + 2, call[3] >> c & 1, call[4 + c]);
