@@ -15,7 +15,7 @@ use Rattle.rules.specs.Keys.{orphan, orphans, counts}
 use Rattle.rules.specs.Lists.{𝟘}
 use Rattle.rules.specs.Rows.{Tables}
 use Rattle.rules.specs.State.{keptInRange}
-use Rattle.rules.specs.Values.{inRange, sameValue}
+use Rattle.rules.specs.Values.{inRange, sameWord}
 use Rattle.schema.proofs.RangeLaws.{and-left, and-right}
 use Rattle.schema.proofs.SchemaLaws.{Valid}
 use Rattle.schema.specs.Ranges.{all}
@@ -40,7 +40,7 @@ module _ (s : Schema) (tabs : Tables) (h : Shaped s tabs) where
       (le→leb (orphans tabs k) (tableOf s (k .child) .rows) (omega (arith, count-bound (orphan k (getD tabs (k .parent) [])) (getD tabs (k .child) []), rows-at (s .tables) tabs h (k .child))))
 
   none-in-range : (n : ℕ) → keptInRange s [] (replicate n 𝟘) ≡ true
-  unfolding keptInRange sameValue
+  unfolding keptInRange sameWord
   none-in-range zero = refl
   none-in-range (suc n) = none-in-range n
 
@@ -55,8 +55,8 @@ module _ (s : Schema) (tabs : Tables) (h : Shaped s tabs) where
 
 -- numbers in range are from 0 to 1,024
 
-zero-limited : (x : ℤ) → sameValue 𝟘 x ≡ true → inRange 1024 x ≡ true
-unfolding sameValue inRange
+zero-limited : (x : ℤ) → sameWord 𝟘 x ≡ true → inRange 1024 x ≡ true
+unfolding sameWord inRange
 zero-limited (pos n) h = passes (leb n 1024) (le→leb n 1024 (let e : 0 ≡ n = eqb→eq 0 n (holds h) in omega arith))
 zero-limited (negsuc n) h = h
 
@@ -69,7 +69,7 @@ pub kept-limited : {s : Schema} → Valid s → (ks : List ForeignKey) (xs : Lis
 unfolding keptInRange all
 kept-limited v ks [] h = refl
 kept-limited {s} v [] (x ∷ xs) h =
-    all-cons (inRange 1024) x xs (zero-limited x (and-left (sameValue 𝟘 x) (keptInRange s [] xs) h)) (kept-limited v [] xs (and-right (sameValue 𝟘 x) (keptInRange s [] xs) h))
+    all-cons (inRange 1024) x xs (zero-limited x (and-left (sameWord 𝟘 x) (keptInRange s [] xs) h)) (kept-limited v [] xs (and-right (sameWord 𝟘 x) (keptInRange s [] xs) h))
 kept-limited {s} v (k ∷ ks) (x ∷ xs) h =
     let t : Bool = inRange (tableOf s (k .child) .rows) x in
     all-cons (inRange 1024) x xs (rows-limited (tableOf s (k .child) .rows) x (rows-short v (k .child)) (and-left t (keptInRange s ks xs) h)) (kept-limited v ks xs (and-right t (keptInRange s ks xs) h))

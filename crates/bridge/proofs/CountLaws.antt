@@ -1,7 +1,7 @@
 -- A test over a list: whether one passes it, how many do.
 -- Assumes nothing.
 use mathlib.Core.Path.{_≡_, refl, sym, ap, _∙_}
-use mathlib.Core.Bool.{Bool, true, false, not, _||_}
+use mathlib.Core.Bool.{Bool, true, false, not, _||_, false≢true}
 use mathlib.Core.List.{List, [], _∷_, _++_}
 use Prim.Native.Nat.{ℕ, suc, _+_, _≤_}
 use native.Mathlib.Omega.{arith}
@@ -28,6 +28,15 @@ module _ {A : Type 0} (p : A → Bool) where
       go : (b : Bool) → elim b [ true ↦ true | false ↦ any p xs ] ≡ b || any p xs
       go true = refl
       go false = refl
+
+  -- none passes, so neither the first nor one of the others
+  pub any-neither : (x : A) (xs : List A) → any p (x ∷ xs) ≡ false → (p x ≡ false) × (any p xs ≡ false)
+  unfolding any
+  any-neither x xs = go (p x)
+    where
+      go : (b : Bool) → elim b [ true ↦ true | false ↦ any p xs ] ≡ false → (b ≡ false) × (any p xs ≡ false)
+      go true e = absurd (false≢true (sym e))
+      go false e = (refl, e)
 
   pub any-append : (xs ys : List A) → any p (xs ++ ys) ≡ any p xs || any p ys
   unfolding any

@@ -1,12 +1,12 @@
 -- Keys are equal either way round, those that equal one key equal each other, and a row's padding does not matter to them.
 -- Assumes nothing.
 use mathlib.Core.Path.{_≡_, refl, sym, _∙_, ap, ap₂}
-use mathlib.Core.Bool.{Bool, true, false, not, _&&_, false≢true}
+use mathlib.Core.Bool.{Bool, true, false, not, _&&_, _||_, false≢true}
 use mathlib.Core.List.{List, [], _∷_, _++_}
 use Prim.Native.Nat.{ℕ, zero, suc, _-_}
 use native.Mathlib.Omega.{arith}
 use lib.IntN.{ℤ}
-use lib.ListN.{length, getD, replicate}
+use lib.ListN.{length, getD, drop, replicate}
 use Rattle.schema.specs.Bytes.{bit}
 use Rattle.schema.specs.Ranges.{all}
 use Rattle.schema.specs.Records.{ForeignKey}
@@ -14,36 +14,57 @@ use Rattle.schema.specs.declared.Match.{Match}
 use Rattle.schema.specs.declared.Match.the-variants.{Simple, Full}
 use Rattle.schema.proofs.RangeLaws.{and-left, and-right}
 use Rattle.rules.specs.Lists.{𝟘, padded, any}
-use Rattle.rules.specs.Values.{natOf, sameValue}
+use Rattle.rules.specs.Values.{natOf, sameWord, folded, sameValue}
 use Rattle.rules.specs.Rows.{Row, liveState, live, nullAt, valueAt}
 use Rattle.rules.specs.Keys.{sameCell, sameKey, fullKey, halfKey, mapsTo, halfDue, due, serves, orphan}
 use Rattle.bridge.proofs.Bits.{both-ways, same-eq, same-refl}
-use Rattle.bridge.proofs.Tests.{and-same, or-same}
+use Rattle.bridge.proofs.Tests.{fails, and-same, or-same}
+use Rattle.bridge.proofs.CountLaws.{any-cons}
+
+-- ---- values
+
+pub same-sym : (a b : ℤ) → sameWord a b ≡ sameWord b a
+same-sym a b =
+    both-ways (sameWord a b) (sameWord b a) (λ h. rw (same-eq a b h) (same-refl b)) (λ h. rw (same-eq b a h) (same-refl a))
+
+-- equality of values is an equivalence, folded or not
+module _ (f : Bool) where
+  pub value-self : (a : ℤ) → sameValue f a a ≡ true
+  unfolding sameValue
+  value-self a = same-refl (folded f a)
+
+  pub value-sym : (a b : ℤ) → sameValue f a b ≡ sameValue f b a
+  unfolding sameValue
+  value-sym a b = same-sym (folded f a) (folded f b)
+
+  pub value-trans : (z a b : ℤ) → sameValue f a b ≡ true → sameValue f z a ≡ sameValue f z b
+  unfolding sameValue
+  value-trans z a b h = ap (sameWord (folded f z)) (same-eq (folded f a) (folded f b) h)
 
 -- ---- equal keys, column by column
 
-module _ (x y : Row) where
-  pub key-first : (c d : ℕ) (cs ds : List ℕ) → sameKey (c ∷ cs) (d ∷ ds) x y ≡ true → sameCell x y c d ≡ true
+-- whether the first pair is folded
+abbrev head : List Bool → Bool
+head fs = getD fs 0 false
+
+module _ (x y : Row) (fs : List Bool) (c d : ℕ) (cs ds : List ℕ) where
+  pub key-first : sameKey fs (c ∷ cs) (d ∷ ds) x y ≡ true → sameCell (head fs) x y c d ≡ true
   unfolding sameKey
-  key-first c d cs ds h = by (sameCell x y c d) h
+  key-first h = by (sameCell (head fs) x y c d) h
     where
-      by : (b : Bool) → elim b [ true ↦ sameKey cs ds x y | false ↦ false ] ≡ true → b ≡ true
+      by : (b : Bool) → elim b [ true ↦ sameKey (drop 1 fs) cs ds x y | false ↦ false ] ≡ true → b ≡ true
       by true e = refl
       by false e = e
 
-  pub key-rest : (c d : ℕ) (cs ds : List ℕ) → sameKey (c ∷ cs) (d ∷ ds) x y ≡ true → sameKey cs ds x y ≡ true
+  pub key-rest : sameKey fs (c ∷ cs) (d ∷ ds) x y ≡ true → sameKey (drop 1 fs) cs ds x y ≡ true
   unfolding sameKey
-  key-rest c d cs ds h = by (sameCell x y c d) h
+  key-rest h = by (sameCell (head fs) x y c d) h
     where
-      by : (b : Bool) → elim b [ true ↦ sameKey cs ds x y | false ↦ false ] ≡ true → sameKey cs ds x y ≡ true
+      by : (b : Bool) → elim b [ true ↦ sameKey (drop 1 fs) cs ds x y | false ↦ false ] ≡ true → sameKey (drop 1 fs) cs ds x y ≡ true
       by true e = e
       by false e = absurd (false≢true e)
 
 -- ---- either way round
-
-pub same-sym : (a b : ℤ) → sameValue a b ≡ sameValue b a
-same-sym a b =
-    both-ways (sameValue a b) (sameValue b a) (λ h. rw (same-eq a b h) (same-refl b)) (λ h. rw (same-eq b a h) (same-refl a))
 
 pub and-comm : (a b : Bool) → a && b ≡ b && a
 and-comm true true = refl
@@ -52,46 +73,56 @@ and-comm false true = refl
 and-comm false false = refl
 
 module _ (x y : Row) where
-  pub cell-sym : (c d : ℕ) → sameCell x y c d ≡ sameCell y x d c
+  pub cell-sym : (f : Bool) (c d : ℕ) → sameCell f x y c d ≡ sameCell f y x d c
   unfolding sameCell
-  cell-sym c d =
-      ap₂ (λ (a b : Bool). a && b) (same-sym (valueAt x c) (valueAt y d)) (and-comm (not (nullAt x c)) (not (nullAt y d)))
+  cell-sym f c d =
+      ap₂ (λ (a b : Bool). a && b) (value-sym f (valueAt x c) (valueAt y d)) (and-comm (not (nullAt x c)) (not (nullAt y d)))
 
-  pub key-sym : (cs ds : List ℕ) → sameKey cs ds x y ≡ sameKey ds cs y x
+  pub key-sym : (fs : List Bool) (cs ds : List ℕ) → sameKey fs cs ds x y ≡ sameKey fs ds cs y x
   unfolding sameKey
-  key-sym [] [] = refl
-  key-sym [] (d ∷ ds) = refl
-  key-sym (c ∷ cs) [] = refl
-  key-sym (c ∷ cs) (d ∷ ds) = ap₂ (λ (a b : Bool). elim a [ true ↦ b | false ↦ false ]) (cell-sym c d) (key-sym cs ds)
+  key-sym fs [] [] = refl
+  key-sym fs [] (d ∷ ds) = refl
+  key-sym fs (c ∷ cs) [] = refl
+  key-sym fs (c ∷ cs) (d ∷ ds) = ap₂ (λ (a b : Bool). elim a [ true ↦ b | false ↦ false ]) (cell-sym (head fs) c d) (key-sym (drop 1 fs) cs ds)
 
 -- ---- keys that equal one key equal each other
 
 module _ (x y : Row) where
-  cell-trans : (z : Row) (e c d : ℕ) → sameCell x y c d ≡ true → sameCell z x e c ≡ sameCell z y e d
+  -- cells that are equal have no NULL
+  pub cell-filled : (f : Bool) (c d : ℕ) → sameCell f x y c d ≡ true → (not (nullAt x c) ≡ true) × (not (nullAt y d) ≡ true)
   unfolding sameCell
-  cell-trans z e c d h =
-      let values : valueAt x c ≡ valueAt y d = same-eq (valueAt x c) (valueAt y d) (and-left (sameValue (valueAt x c) (valueAt y d)) _ h) in
-      let full = and-right (sameValue (valueAt x c) (valueAt y d)) (not (nullAt x c) && not (nullAt y d)) h in
-      let left : not (nullAt x c) ≡ true = and-left (not (nullAt x c)) (not (nullAt y d)) full in
-      let right : not (nullAt y d) ≡ true = and-right (not (nullAt x c)) (not (nullAt y d)) full in
-      rw (values, left, right) refl
+  cell-filled f c d h =
+      let full = and-right (sameValue f (valueAt x c) (valueAt y d)) (not (nullAt x c) && not (nullAt y d)) h in
+      (and-left (not (nullAt x c)) (not (nullAt y d)) full, and-right (not (nullAt x c)) (not (nullAt y d)) full)
+
+  cell-trans : (z : Row) (f : Bool) (e c d : ℕ) → sameCell f x y c d ≡ true → sameCell f z x e c ≡ sameCell f z y e d
+  unfolding sameCell
+  cell-trans z f e c d h =
+      let values = value-trans f (valueAt z e) (valueAt x c) (valueAt y d) (and-left (sameValue f (valueAt x c) (valueAt y d)) (not (nullAt x c) && not (nullAt y d)) h) in
+      let full = cell-filled f c d h in
+      rw (values, full .0, full .1) refl
 
   -- the columns of the two keys are as many
-  pub key-trans : (z : Row) (es cs ds : List ℕ) → length cs ≡ length ds → sameKey cs ds x y ≡ true → sameKey es cs z x ≡ sameKey es ds z y
+  pub key-trans : (z : Row) (fs : List Bool) (es cs ds : List ℕ) → length cs ≡ length ds → sameKey fs cs ds x y ≡ true → sameKey fs es cs z x ≡ sameKey fs es ds z y
   unfolding sameKey
-  key-trans z [] cs ds l h = refl
-  key-trans z (e ∷ es) [] [] l h = refl
-  key-trans z (e ∷ es) [] (d ∷ ds) l h = absurd (omega arith)
-  key-trans z (e ∷ es) (c ∷ cs) [] l h = absurd (omega arith)
-  key-trans z (e ∷ es) (c ∷ cs) (d ∷ ds) l h =
-      ap₂ (λ (a b : Bool). elim a [ true ↦ b | false ↦ false ]) (cell-trans z e c d (key-first x y c d cs ds h)) (key-trans z es cs ds (omega arith) (key-rest x y c d cs ds h))
+  key-trans z fs [] cs ds l h = refl
+  key-trans z fs (e ∷ es) [] [] l h = refl
+  key-trans z fs (e ∷ es) [] (d ∷ ds) l h = absurd (omega arith)
+  key-trans z fs (e ∷ es) (c ∷ cs) [] l h = absurd (omega arith)
+  key-trans z fs (e ∷ es) (c ∷ cs) (d ∷ ds) l h =
+      ap₂ (λ (a b : Bool). elim a [ true ↦ b | false ↦ false ]) (cell-trans z (head fs) e c d (key-first x y fs c d cs ds h)) (key-trans z (drop 1 fs) es cs ds (omega arith) (key-rest x y fs c d cs ds h))
 
 -- a key that equals another has no NULL
-pub full-left : (x y : Row) (cs ds : List ℕ) → length cs ≡ length ds → sameKey cs ds x y ≡ true → sameKey cs cs x x ≡ true
-full-left x y cs ds l h = key-trans x y x cs cs ds l h ∙ h
+pub full-left : (x y : Row) (fs : List Bool) (cs ds : List ℕ) → length cs ≡ length ds → sameKey fs cs ds x y ≡ true → any (nullAt x) cs ≡ false
+unfolding any
+full-left x y fs [] ds l h = refl
+full-left x y fs (c ∷ cs) [] l h = absurd (omega arith)
+full-left x y fs (c ∷ cs) (d ∷ ds) l h =
+    any-cons (nullAt x) c cs
+    ∙ ap₂ (λ (a b : Bool). a || b) (fails (nullAt x c) (cell-filled x y (head fs) c d (key-first x y fs c d cs ds h) .0)) (full-left x y (drop 1 fs) cs ds (omega arith) (key-rest x y fs c d cs ds h))
 
-pub full-right : (x y : Row) (cs ds : List ℕ) → length cs ≡ length ds → sameKey cs ds x y ≡ true → sameKey ds ds y y ≡ true
-full-right x y cs ds l h = full-left y x ds cs (sym l) (sym (key-sym x y cs ds) ∙ h)
+pub full-right : (x y : Row) (fs : List Bool) (cs ds : List ℕ) → length cs ≡ length ds → sameKey fs cs ds x y ≡ true → any (nullAt y) ds ≡ false
+full-right x y fs cs ds l h = full-left y x fs ds cs (sym l) (sym (key-sym x y fs cs ds) ∙ h)
 
 -- ---- rows of the same words, but for zeros at the end
 
@@ -100,23 +131,23 @@ module _ (x x′ : Row) (same : (i : ℕ) → getD x i 𝟘 ≡ getD x′ i 𝟘
   unfolding live
   live-same = ap (λ (z : ℤ). liveState (natOf z)) (same 0)
 
-  cell-same : (y : Row) (c d : ℕ) → sameCell x y c d ≡ sameCell x′ y c d
+  cell-same : (f : Bool) (y : Row) (c d : ℕ) → sameCell f x y c d ≡ sameCell f x′ y c d
   unfolding sameCell valueAt nullAt
-  cell-same y c d =
-      ap₂ (λ (v s : ℤ). sameValue v (valueAt y d) && (not (bit c (natOf s)) && not (nullAt y d))) (same (suc c)) (same 0)
+  cell-same f y c d =
+      ap₂ (λ (v s : ℤ). sameValue f v (valueAt y d) && (not (bit c (natOf s)) && not (nullAt y d))) (same (suc c)) (same 0)
 
-  key-left : (y : Row) (cs ds : List ℕ) → sameKey cs ds x y ≡ sameKey cs ds x′ y
+  key-left : (fs : List Bool) (y : Row) (cs ds : List ℕ) → sameKey fs cs ds x y ≡ sameKey fs cs ds x′ y
   unfolding sameKey
-  key-left y [] ds = refl
-  key-left y (c ∷ cs) [] = refl
-  key-left y (c ∷ cs) (d ∷ ds) = ap₂ (λ (a b : Bool). elim a [ true ↦ b | false ↦ false ]) (cell-same y c d) (key-left y cs ds)
+  key-left fs y [] ds = refl
+  key-left fs y (c ∷ cs) [] = refl
+  key-left fs y (c ∷ cs) (d ∷ ds) = ap₂ (λ (a b : Bool). elim a [ true ↦ b | false ↦ false ]) (cell-same (head fs) y c d) (key-left (drop 1 fs) y cs ds)
 
-  key-right : (y : Row) (cs ds : List ℕ) → sameKey cs ds y x ≡ sameKey cs ds y x′
-  key-right y cs ds = key-sym y x cs ds ∙ key-left y ds cs ∙ key-sym x′ y ds cs
+  key-right : (fs : List Bool) (y : Row) (cs ds : List ℕ) → sameKey fs cs ds y x ≡ sameKey fs cs ds y x′
+  key-right fs y cs ds = key-sym y x fs cs ds ∙ key-left fs y ds cs ∙ key-sym x′ y fs ds cs
 
   pub full-same : (cs : List ℕ) → fullKey cs x ≡ fullKey cs x′
-  unfolding fullKey
-  full-same cs = ap₂ (λ (a b : Bool). a && b) live-same (key-left x cs cs ∙ key-right x′ cs cs)
+  unfolding fullKey nullAt
+  full-same cs = and-same live-same (ap (λ (z : ℤ). not (any (λ c. bit c (natOf z)) cs)) (same 0))
 
   half-same : (cs : List ℕ) → halfKey cs x ≡ halfKey cs x′
   unfolding halfKey nullAt
@@ -134,12 +165,12 @@ module _ (x x′ : Row) (same : (i : ℕ) → getD x i 𝟘 ≡ getD x′ i 𝟘
 
     serves-same : (p : Row) → serves k x p ≡ serves k x′ p
     unfolding serves mapsTo
-    serves-same p = ap (λ (b : Bool). live p && b) (key-left p (k .childColumns) (k .parentColumns))
+    serves-same p = ap (λ (b : Bool). live p && b) (key-left (k .folds) p (k .childColumns) (k .parentColumns))
 
     -- whether a row serves another
     pub gives-same : (c : Row) → serves k c x ≡ serves k c x′
     unfolding serves mapsTo
-    gives-same c = ap₂ (λ (a b : Bool). a && b) live-same (key-right c (k .childColumns) (k .parentColumns))
+    gives-same c = ap₂ (λ (a b : Bool). a && b) live-same (key-right (k .folds) c (k .childColumns) (k .parentColumns))
 
     -- whether a row is an orphan
     pub orphan-same : (ps : List Row) → orphan k ps x ≡ orphan k ps x′

@@ -1,8 +1,8 @@
 -- Keys with NULL in them: which rows need a parent all the same, and that no row serves them.
 -- Assumes nothing.
-use mathlib.Core.Path.{_≡_, refl, sym, _∙_, ap, ap₂}
+use mathlib.Core.Path.{_≡_, refl, sym, _∙_, ap}
 use mathlib.Core.Bool.{Bool, true, false, not, _&&_, _||_, false≢true}
-use mathlib.Core.List.{List, [], _∷_}
+use mathlib.Core.List.{List}
 use Prim.Native.Nat.{ℕ}
 use lib.ListN.{length}
 use Rattle.schema.specs.Records.{ForeignKey}
@@ -11,38 +11,18 @@ use Rattle.schema.specs.declared.Match.{Match}
 use Rattle.schema.specs.declared.Match.the-variants.{Simple, Full}
 use Rattle.schema.proofs.RangeLaws.{and-left, and-right}
 use Rattle.rules.specs.Lists.{any}
-use Rattle.rules.specs.Rows.{Row, live, nullAt, valueAt}
-use Rattle.rules.specs.Keys.{sameCell, sameKey, fullKey, halfKey, mapsTo, halfDue, due, serves, orphan}
-use Rattle.bridge.proofs.Bits.{same-refl}
+use Rattle.rules.specs.Rows.{Row, live, nullAt}
+use Rattle.rules.specs.Keys.{sameKey, fullKey, halfKey, mapsTo, halfDue, due, serves, orphan}
 use Rattle.bridge.proofs.Tests.{and-none}
 use Rattle.bridge.proofs.CountLaws.{any-never}
 use Rattle.bridge.proofs.KeyLaws.{full-left}
 
 -- ---- one row
 module _ (x : Row) where
-  cell-self : (c : ℕ) → sameCell x x c c ≡ not (nullAt x c)
-  unfolding sameCell
-  cell-self c = ap (λ (b : Bool). b && (not (nullAt x c) && not (nullAt x c))) (same-refl (valueAt x c)) ∙ twice (not (nullAt x c))
-    where
-      twice : (b : Bool) → b && b ≡ b
-      twice true = refl
-      twice false = refl
-
-  -- a key equals itself exactly if it has no NULL
-  pub no-null : (cs : List ℕ) → sameKey cs cs x x ≡ not (any (nullAt x) cs)
-  unfolding sameKey any
-  no-null [] = refl
-  no-null (c ∷ cs) = ap₂ (λ (a b : Bool). elim a [ true ↦ b | false ↦ false ]) (cell-self c) (no-null cs) ∙ by (nullAt x c) (any (nullAt x) cs)
-    where
-      by : (m a : Bool) → elim (not m) [ true ↦ not a | false ↦ false ] ≡ not (elim m [ true ↦ true | false ↦ a ])
-      by true a = refl
-      by false a = refl
-
-  half-null : (cs : List ℕ) → halfKey cs x ≡ true → sameKey cs cs x x ≡ false
+  -- a half-filled key has NULL
+  half-null : (cs : List ℕ) → halfKey cs x ≡ true → any (nullAt x) cs ≡ true
   unfolding halfKey
-  half-null cs h =
-      let some = and-left (any (nullAt x) cs) (not (all (nullAt x) cs)) (and-right (live x) (any (nullAt x) cs && not (all (nullAt x) cs)) h) in
-      no-null cs ∙ ap not some
+  half-null cs h = and-left (any (nullAt x) cs) (not (all (nullAt x) cs)) (and-right (live x) (any (nullAt x) cs && not (all (nullAt x) cs)) h)
 
   half-due-key : (m : Match) (cs : List ℕ) → halfDue m cs x ≡ true → halfKey cs x ≡ true
   unfolding halfDue
@@ -57,7 +37,7 @@ module _ (x : Row) where
 pub vacant-orphan : (k : ForeignKey) (ps : List Row) (x : Row) → live x ≡ false → orphan k ps x ≡ false
 unfolding orphan due fullKey
 vacant-orphan k ps x h =
-    ap (λ b. (not (k .broken) && ((b && sameKey (k .childColumns) (k .childColumns) x x) || halfDue (k .match) (k .childColumns) x)) && not (any (serves k x) ps)) h
+    ap (λ b. (not (k .broken) && ((b && not (any (nullAt x) (k .childColumns))) || halfDue (k .match) (k .childColumns) x)) && not (any (serves k x) ps)) h
     ∙ by (halfDue (k .match) (k .childColumns) x) (half-due-live x (k .match) (k .childColumns))
   where
     by : (d : Bool) → (d ≡ true → live x ≡ true) → (not (k .broken) && d) && not (any (serves k x) ps) ≡ false
@@ -76,8 +56,8 @@ module _ (k : ForeignKey) (same-count : length (k .childColumns) ≡ length (k .
   pub mapped-due : k .broken ≡ false → (p : Row) → mapsTo k x p ≡ true → due k x ≡ live x
   unfolding fullKey mapsTo
   mapped-due whole p h =
-      let full : sameKey (k .childColumns) (k .childColumns) x x ≡ true = full-left x p (k .childColumns) (k .parentColumns) same-count h in
-      whole-due k whole x ∙ ap (λ b. (live x && b) || halfDue (k .match) (k .childColumns) x) full ∙ by (live x) (halfDue (k .match) (k .childColumns) x) (half-due-live x (k .match) (k .childColumns))
+      let full : any (nullAt x) (k .childColumns) ≡ false = full-left x p (k .folds) (k .childColumns) (k .parentColumns) same-count h in
+      whole-due k whole x ∙ ap (λ b. (live x && not b) || halfDue (k .match) (k .childColumns) x) full ∙ by (live x) (halfDue (k .match) (k .childColumns) x) (half-due-live x (k .match) (k .childColumns))
     where
       by : (l d : Bool) → (d ≡ true → l ≡ true) → (l && true) || d ≡ l
       by true d e = refl
@@ -87,10 +67,10 @@ module _ (k : ForeignKey) (same-count : length (k .childColumns) ≡ length (k .
   -- no row serves a half-filled one: NULL equals nothing
   pub half-unserved : halfKey (k .childColumns) x ≡ true → (p : Row) → serves k x p ≡ false
   unfolding serves mapsTo
-  half-unserved h p = by (sameKey (k .childColumns) (k .parentColumns) x p) refl
+  half-unserved h p = by (sameKey (k .folds) (k .childColumns) (k .parentColumns) x p) refl
     where
-      by : (m : Bool) → sameKey (k .childColumns) (k .parentColumns) x p ≡ m → live p && m ≡ false
-      by true e = absurd (false≢true (sym (half-null x (k .childColumns) h) ∙ full-left x p (k .childColumns) (k .parentColumns) same-count e))
+      by : (m : Bool) → sameKey (k .folds) (k .childColumns) (k .parentColumns) x p ≡ m → live p && m ≡ false
+      by true e = absurd (false≢true (sym (full-left x p (k .folds) (k .childColumns) (k .parentColumns) same-count e) ∙ half-null x (k .childColumns) h))
       by false e = and-none (live p)
 
   -- so one that needs a parent with NULL in its key is an orphan, whatever the parent rows

@@ -20,7 +20,7 @@ use Rattle.rules.specs.Area.{tablesOf, levelWords, entryWords, levelOf, entryOf
 use Rattle.rules.specs.Book.{Entry, Level, Book, zeroLevels, blank, fresh}
 use Rattle.rules.specs.Lists.{𝟘, flat, chunks}
 use Rattle.rules.specs.Rows.{Tables}
-use Rattle.rules.specs.Values.{natOf, sameValue, natural}
+use Rattle.rules.specs.Values.{natOf, sameWord, natural}
 use Rattle.schema.proofs.RangeLaws.{every-at, every-nil, every-cons}
 use Rattle.schema.specs.Ranges.{all, every}
 use Rattle.schema.specs.Records.{Schema, Table}
@@ -325,8 +325,8 @@ module _ {s : Schema} {b : Book} (g : Formed s b) where
   view-words =
       book-path word-1 kept-is levels-are closed-is (work-path tabs-are entries-are spare-is)
 
-  word-3 : sameValue 𝟘 (getD (words b) 3 𝟘) ≡ true
-  unfolding words sameValue
+  word-3 : sameWord 𝟘 (getD (words b) 3 𝟘) ≡ true
+  unfolding words sameWord
   word-3 = refl
 
   pub legible-words : legible s (words b) ≡ true

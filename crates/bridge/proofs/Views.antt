@@ -15,7 +15,7 @@ use Rattle.rules.specs.Area.{tablesOf, levelWords, entryWords, levelOf, entryOf
 use Rattle.rules.specs.Book.{Book}
 use Rattle.rules.specs.Lists.{𝟘, flat, chunks}
 use Rattle.rules.specs.Rows.{Row, Tables, rowAt, putRow}
-use Rattle.rules.specs.Values.{natOf, sameValue, natural}
+use Rattle.rules.specs.Values.{natOf, sameWord, natural}
 use Rattle.schema.proofs.RangeLaws.{every-at}
 use Rattle.schema.specs.Ranges.{all}
 use Rattle.schema.specs.Records.{Schema, Table}
@@ -76,8 +76,8 @@ four (a ∷ b ∷ []) h = absurd (omega arith)
 four (a ∷ b ∷ c ∷ []) h = absurd (omega arith)
 four (a ∷ b ∷ c ∷ d ∷ ws) h = refl
 
-same-zero : (w : ℤ) → sameValue 𝟘 w ≡ true → w ≡ 𝟘
-unfolding sameValue
+same-zero : (w : ℤ) → sameWord 𝟘 w ≡ true → w ≡ 𝟘
+unfolding sameWord
 same-zero (pos n) h = ap pos (sym (eqb→eq 0 n (holds h)))
 same-zero (negsuc n) h = absurd (false≢true h)
 

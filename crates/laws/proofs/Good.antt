@@ -21,7 +21,7 @@ use Rattle.rules.specs.Lists.{𝟘, count}
 use Rattle.rules.specs.Rows.{Row, live, liveState}
 use Rattle.rules.specs.State.{inTransaction, openerFits, keptInRange, savedInRange, placed, usesRise, undamaged}
 use Rattle.rules.specs.Statement.{afterStatement, journalAfter}
-use Rattle.rules.specs.Values.{natOf, sameValue, inRange}
+use Rattle.rules.specs.Values.{natOf, sameWord, inRange}
 use Rattle.schema.proofs.SchemaLaws.{Valid}
 use Rattle.schema.specs.Ranges.{all}
 use Rattle.schema.specs.Records.{tableOf, Schema, ForeignKey, Table}
@@ -181,7 +181,7 @@ fresh-counts s few =
     sym (ap (λ l. l ++ replicate (32 - length l) 𝟘) e ∙ ap (λ m. replicate (length (s .keys)) 𝟘 ++ replicate (32 - m) 𝟘) (length-replicate (length (s .keys)) 𝟘) ∙ replicate-append-replicate (length (s .keys)) (32 - length (s .keys)) 𝟘 ∙ ap (λ m. replicate m 𝟘) n)
 
 zeros-in-range : (s : Schema) (ks : List ForeignKey) (n : ℕ) → keptInRange s ks (replicate n 𝟘) ≡ true
-unfolding keptInRange sameValue inRange
+unfolding keptInRange sameWord inRange
 zeros-in-range s ks zero = refl
 zeros-in-range s [] (suc n) = zeros-in-range s [] n
 zeros-in-range s (k ∷ ks) (suc n) = and-both (passes (leb 0 (tableOf s (k .child) .rows)) (le→leb 0 (tableOf s (k .child) .rows) (omega arith))) (zeros-in-range s ks n)

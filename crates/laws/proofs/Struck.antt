@@ -24,7 +24,7 @@ use Rattle.rules.specs.State.{inTransaction, keptInRange, levelOpen}
 use Rattle.rules.specs.Statement.{Turn, check}
 use Rattle.rules.specs.Step.{committed, released, act, step, runAll, run, Logged}
 use Rattle.rules.specs.Strike.{Struck, joined, place, mark, marks, strike, callsOf, commitWords, releaseWords}
-use Rattle.rules.specs.Values.{allZero, natural, natOf, sameValue}
+use Rattle.rules.specs.Values.{allZero, natural, natOf, sameWord}
 use Rattle.schema.specs.Ranges.{all}
 use Rattle.rules.specs.declared.Answer.{Answer}
 use Rattle.rules.specs.declared.Answer.the-variants.{Done}
@@ -93,7 +93,7 @@ pub record Inv (s : Schema) (start : Book) (b : Book) (line : List Logged) (pile
 keep : {s : Schema} {start : Book} {b b′ : Book} {line line′ : List Logged} {pile : List ℕ} (j : ℕ) → Inv s start b line pile → Reach s start line′ b′ → length (drop j pile) ≡ length (b′ .levels)
     → Desc (length line′) (drop j pile) → ((i m : ℕ) → j + i < length pile → m ≤ getD pile (j + i) 0 → take m line′ ≡ take m line)
     → ((i : ℕ) → j + i < length pile → back i b′ ≡ back (j + i) b) → (j < length pile → abort b′ ≡ abort b) → Inv s start b′ line′ (drop j pile)
-keep {s} {start} {b} {b′} {line} {line′} {pile} j v r height d cut sameValue first =
+keep {s} {start} {b} {b′} {line} {line′} {pile} j v r height d cut sameWord first =
     record {
       now = r;
       height = height;
@@ -101,7 +101,7 @@ keep {s} {start} {b} {b′} {line} {line′} {pile} j v r height d cut sameValue
       marked = λ i h.
           let l : j + i < length pile = omega (arith, length-drop j pile) in
           let e : take (getD pile (j + i) 0) line′ ≡ take (getD pile (j + i) 0) line = cut i (getD pile (j + i) 0) l (omega arith) in
-          rw (getD-drop, e, sameValue i l) (v .marked (j + i) l);
+          rw (getD-drop, e, sameWord i l) (v .marked (j + i) l);
       started = λ h.
           let l : j < length pile = omega (arith, length-drop j pile) in
           let p : j + pred (length (drop j pile)) ≡ pred (length pile) = omega (arith, length-drop j pile) in
@@ -114,11 +114,11 @@ keep {s} {start} {b} {b′} {line} {line′} {pile} j v r height d cut sameValue
 -- a call joins the line, and the newest j marks go
 keep-joined : {s : Schema} {start : Book} {b b′ : Book} {line : List Logged} {pile : List ℕ} (x : Logged) (j : ℕ) → Inv s start b line pile → Reach s start (joined x line) b′ → length (drop j pile) ≡ length (b′ .levels)
     → ((i : ℕ) → j + i < length pile → back i b′ ≡ back (j + i) b) → (j < length pile → abort b′ ≡ abort b) → Inv s start b′ (joined x line) (drop j pile)
-keep-joined {line = line} {pile = pile} x j v r height sameValue first =
+keep-joined {line = line} {pile = pile} x j v r height sameWord first =
     keep j v r height
     (desc-raise (length line) (length (joined x line)) (drop j pile) (simp length-append (omega arith)) (desc-drop (length line) pile j (v .falling)))
     (λ i m h le. take-append-le m line (x ∷ []) (omega (arith, desc-get (length line) pile (j + i) (v .falling) h)))
-    sameValue first
+    sameWord first
 
 -- no marks
 none : {s : Schema} {start : Book} {b : Book} {line : List Logged} → Reach s start line b → b .levels ≡ [] → Inv s start b line []
@@ -240,11 +240,11 @@ module _ {s : Schema} {start : Book} (valid : Valid s) (good : Good s start) (no
   invariant cs = keep-all valid empty cs
 
 parse-commit : parse commitWords ≡ commit
-unfolding parse parsed formedIf natural natOf allZero all sameValue
+unfolding parse parsed formedIf natural natOf allZero all sameWord
 parse-commit = refl
 
 parse-release : parse releaseWords ≡ release 1
-unfolding parse parsed formedIf natural natOf allZero all sameValue
+unfolding parse parsed formedIf natural natOf allZero all sameWord
 parse-release = refl
 
 -- a commit sent to a good book with a transaction open

@@ -8,7 +8,7 @@ use lib.Dec.{eqb}
 use lib.ListN.{length, getD}
 use Rattle.schema.specs.Records.{ForeignKey}
 use Rattle.rules.specs.Lists.{any, count}
-use Rattle.rules.specs.Rows.{Row, Tables, live}
+use Rattle.rules.specs.Rows.{Row, Tables, live, nullAt}
 use Rattle.rules.specs.Keys.{sameKey, fullKey, halfKey, mapsTo, due, serves, takes, sameParentKey, fires}
 use Rattle.bridge.proofs.CountLaws.{count-none}
 use Rattle.bridge.proofs.Tests.{and-none}
@@ -53,8 +53,8 @@ module _ (k : ForeignKey) (whole : k .broken ≡ false) (same-count : length (k 
   unfolding serves mapsTo sameParentKey
   served-twin c p h =
       ap (λ b. live p && b)
-      (key-sym c p (k .childColumns) (k .parentColumns)
-      ∙ key-trans c x p (k .parentColumns) (k .childColumns) (k .parentColumns) same-count h)
+      (key-sym c p (k .folds) (k .childColumns) (k .parentColumns)
+      ∙ key-trans c x p (k .folds) (k .parentColumns) (k .childColumns) (k .parentColumns) same-count h)
 
   -- a row that needs a parent and that x serves is one that x's actions take
   due-served : (c : Row) → due k c && serves k c x ≡ live x && takes k x c
@@ -66,12 +66,12 @@ module _ (k : ForeignKey) (whole : k .broken ≡ false) (same-count : length (k 
   untaken c h = rw h (ap (λ b. live x && b) (and-none (live c)) ∙ and-none (live x))
 
   -- where x has NULL in its key, its actions take no row
-  none-taken : sameKey (k .parentColumns) (k .parentColumns) x x ≡ false → (cs : List Row) → count (takes k x) cs ≡ 0
+  none-taken : any (nullAt x) (k .parentColumns) ≡ true → (cs : List Row) → count (takes k x) cs ≡ 0
   unfolding takes mapsTo
-  none-taken h cs = count-none (takes k x) (λ c. by c (sameKey (k .childColumns) (k .parentColumns) c x) refl) cs
+  none-taken h cs = count-none (takes k x) (λ c. by c (sameKey (k .folds) (k .childColumns) (k .parentColumns) c x) refl) cs
     where
-      by : (c : Row) (m : Bool) → sameKey (k .childColumns) (k .parentColumns) c x ≡ m → live c && m ≡ false
-      by c true e = absurd (false≢true (sym h ∙ full-right c x (k .childColumns) (k .parentColumns) same-count e))
+      by : (c : Row) (m : Bool) → sameKey (k .folds) (k .childColumns) (k .parentColumns) c x ≡ m → live c && m ≡ false
+      by c true e = absurd (false≢true (sym (full-right c x (k .folds) (k .childColumns) (k .parentColumns) same-count e) ∙ h))
       by c false e = and-none (live c)
 
   module _ (y : Row) (others : List Row) where
@@ -103,13 +103,13 @@ unfolding pick
 pick-zero true = refl
 pick-zero false = refl
 
-picks : (p s o l f : Bool) (n : ℕ) → (f ≡ false → n ≡ 0) → pick p (pick (s && o) (pick l n)) ≡ pick ((p && ((l && f) && s)) && o) n
+picks : (p s o l m : Bool) (n : ℕ) → (m ≡ true → n ≡ 0) → pick p (pick (s && o) (pick l n)) ≡ pick ((p && ((l && not m) && s)) && o) n
 unfolding pick
-picks false s o l f n h = refl
-picks true s o false f n h = pick-zero (s && o)
-picks true true o true true n h = refl
-picks true false o true true n h = refl
-picks true s o true false n h = rw (h refl) (pick-zero (s && o))
+picks false s o l m n h = refl
+picks true s o false m n h = pick-zero (s && o)
+picks true true o true false n h = refl
+picks true false o true false n h = refl
+picks true s o true true n h = rw (h refl) (pick-zero (s && o))
 
 -- ---- in tables
 module _ (k : ForeignKey) (t r : ℕ) (x y : Row) (tabs : Tables) where
@@ -135,9 +135,9 @@ module _ (k : ForeignKey) (t r : ℕ) (x y : Row) (tabs : Tables) where
     unfolding strandedRows fires fullKey
     stranded-whole u =
         ap (pick (eqb (k .parent) t)) (count-stranded k u same-count x y others-of children-of)
-        ∙ picks (eqb (k .parent) t) (not (sameParentKey k x y)) (not (any (sameParentKey k x) others-of)) (live x) (sameKey (k .parentColumns) (k .parentColumns) x x) (count (takes k x) children-of)
+        ∙ picks (eqb (k .parent) t) (not (sameParentKey k x y)) (not (any (sameParentKey k x) others-of)) (live x) (any (nullAt x) (k .parentColumns)) (count (takes k x) children-of)
         (λ h. none-taken k u same-count x h children-of)
-        ∙ ap (λ b. pick ((eqb (k .parent) t && (not b && ((live x && sameKey (k .parentColumns) (k .parentColumns) x x) && not (sameParentKey k x y)))) && not (any (sameParentKey k x) others-of)) (count (takes k x) children-of)) (sym u)
+        ∙ ap (λ b. pick ((eqb (k .parent) t && (not b && ((live x && not (any (nullAt x) (k .parentColumns))) && not (sameParentKey k x y)))) && not (any (sameParentKey k x) others-of)) (count (takes k x) children-of)) (sym u)
 
     pub stranded-rows : strandedRows k t r x y tabs ≡ pick (fires y t x k && not (any (sameParentKey k x) (except r (getD tabs (k .parent) [])))) (count (takes k x) (exceptIf (eqb (k .child) t) r (getD tabs (k .child) [])))
     unfolding pick

@@ -5,15 +5,15 @@ use mathlib.Core.List.{List, [], _∷_}
 use Prim.Native.Nat.{ℕ}
 use lib.IntN.{ℤ}
 use lib.ListN.{set}
-use Rattle.schema.specs.Bytes.{bit, columnMask}
+use Rattle.schema.specs.Bytes.{bit, foldsOf, columnMask}
 use Rattle.schema.specs.Check.{startsWith, headerRest, headerRules, maskRule, sizeRules, tableRest, tableRules, newColumn, columnsRule, codeRules, keyRest, keyRules, wellFormed, checkSchema}
-use Rattle.schema.specs.Fields.{tableFrom, actionFrom, matchFrom, columnRule, uniqueIs, hasParentKey, isBroken, keyFrom, schemaOf}
+use Rattle.schema.specs.Fields.{tableFrom, actionFrom, matchFrom, columnRule, uniqueIs, hasParentKey, isBroken, keyFolds, keyFrom, schemaOf}
 use Rattle.schema.specs.Ranges.{allFrom, anyFrom, andAll, every, listFrom, all}
 use Rattle.schema.specs.Sizes.{tableSize, rowsSize, tableOffset, areaSize}
 use Rattle.rules.specs.Area.{levelWords, entryWords, words, levelOf, entryOf, tablesOf, levelPart, rowPart, recordPart, view, naturalHead, legible, ensure, areaStep, freshWords}
 use Rattle.rules.specs.Book.{undoOne, undoAll, undo, undoTo, emptied, cleared, push, close, backTo, back, ended, firstKept, abort, blank, fresh}
 use Rattle.rules.specs.Calls.{formedIf, parsed, parse, inTable, rowFits, inColumns, seeksNull, setsNull, valueFits, levelNumber, allowed}
-use Rattle.rules.specs.Change.{then, given, inTurn, notNullBroken, twice, uniqueBroken, admits, admitted, flag, setCell, fillsNull, filler, refilled, childImage, cascaded, actionOf, taken, rowTurn, children, keyTurn, actions, change}
+use Rattle.rules.specs.Change.{then, given, inTurn, notNullBroken, twice, maskBroken, uniqueBroken, admits, admitted, flag, setCell, fillsNull, filler, refilled, childImage, cascaded, actionOf, taken, rowTurn, children, keyTurn, actions, change}
 use Rattle.rules.specs.Found.{cellIs, isFound, rowSet, foundTurn, rowsFound}
 use Rattle.rules.specs.Engine.{underSchema, makeFresh, callOn}
 use Rattle.rules.specs.Keys.{sameCell, sameKey, fullKey, halfKey, maskColumnsFrom, maskColumns, mapsTo, halfDue, due, serves, orphan, orphans, counts, takes, sameParentKey, fires, uses, usesBroken}
@@ -25,7 +25,7 @@ use Rattle.rules.specs.State.{inTransaction, openerFits, keptInRange, sa
 use Rattle.rules.specs.Statement.{check, demand, immediateZero, enforced, journalAfter, afterStatement, settle, conclude, statement, rowStatement}
 use Rattle.rules.specs.Step.{opened, openerOf, committed, released, rolled, act, step, runAll}
 use Rattle.rules.specs.Strike.{place, mark, marks, strike, callsOf}
-use Rattle.rules.specs.Values.{sameValue, sameValues, allZero, natOf, natural, inRange}
+use Rattle.rules.specs.Values.{sameWord, sameWords, raised, eachByte, folded, sameValue, allZero, natOf, natural, inRange}
 use Rattle.rules.specs.Step.{Logged}
 use Rattle.rules.specs.declared.Listed.{Listed}
 use Rattle.rules.specs.declared.Orphan.{Orphan}
@@ -42,7 +42,7 @@ show (x ∷ xs) = shown (x .1) ∷ show xs
 
 -- calls on an area: each with its answer, and the last area
 unfoldable pub ranOn : List ℕ → List ℤ → List (List ℤ) → List Logged × List ℤ
-unfolding bit startsWith headerRest headerRules maskRule sizeRules tableRest tableRules columnRule newColumn columnsRule codeRules keyRest keyRules wellFormed checkSchema tableFrom actionFrom matchFrom uniqueIs hasParentKey isBroken columnMask keyFrom schemaOf allFrom anyFrom andAll every listFrom all tableSize rowsSize tableOffset areaSize levelWords entryWords words levelOf entryOf tablesOf levelPart rowPart recordPart view naturalHead legible ensure areaStep freshWords undoOne undoAll undo undoTo emptied cleared push close backTo back ended firstKept abort blank fresh formedIf parsed parse inTable rowFits inColumns seeksNull setsNull valueFits levelNumber allowed cellIs isFound rowSet inTurn foundTurn rowsFound then given notNullBroken twice uniqueBroken admits admitted flag setCell fillsNull filler refilled childImage cascaded actionOf taken rowTurn children keyTurn actions change underSchema makeFresh callOn sameCell sameKey fullKey halfKey maskColumnsFrom maskColumns mapsTo halfDue due serves orphan orphans counts takes sameParentKey fires uses usesBroken any count flat chunks one upFrom sum less plus number shown accepted failing rowAt putRow overwrite image deletedImage liveState live nullAt valueAt maskOf held liveImage normal inTransaction openerFits keptInRange savedInRange usesRise placed undamaged levelOpen check demand immediateZero enforced journalAfter afterStatement settle conclude statement rowStatement opened openerOf committed released rolled act step runAll place mark marks strike callsOf sameValue sameValues allZero natOf natural inRange
+unfolding bit startsWith headerRest headerRules maskRule sizeRules tableRest tableRules columnRule newColumn columnsRule codeRules keyRest keyRules wellFormed checkSchema tableFrom actionFrom matchFrom uniqueIs hasParentKey isBroken keyFolds columnMask foldsOf keyFrom schemaOf allFrom anyFrom andAll every listFrom all tableSize rowsSize tableOffset areaSize levelWords entryWords words levelOf entryOf tablesOf levelPart rowPart recordPart view naturalHead legible ensure areaStep freshWords undoOne undoAll undo undoTo emptied cleared push close backTo back ended firstKept abort blank fresh formedIf parsed parse inTable rowFits inColumns seeksNull setsNull valueFits levelNumber allowed cellIs isFound rowSet inTurn foundTurn rowsFound then given notNullBroken twice maskBroken uniqueBroken admits admitted flag setCell fillsNull filler refilled childImage cascaded actionOf taken rowTurn children keyTurn actions change underSchema makeFresh callOn sameCell sameKey fullKey halfKey maskColumnsFrom maskColumns mapsTo halfDue due serves orphan orphans counts takes sameParentKey fires uses usesBroken any count flat chunks one upFrom sum less plus number shown accepted failing rowAt putRow overwrite image deletedImage liveState live nullAt valueAt maskOf held liveImage normal inTransaction openerFits keptInRange savedInRange usesRise placed undamaged levelOpen check demand immediateZero enforced journalAfter afterStatement settle conclude statement rowStatement opened openerOf committed released rolled act step runAll place mark marks strike callsOf raised eachByte folded sameValue sameWord sameWords allZero natOf natural inRange
 ranOn bs ws cs = runOn bs cs ws
 
 -- calls on a fresh area
@@ -62,15 +62,15 @@ answersWith bs n v cs = show (ranOn bs (set (freshWords (schemaOf bs)) n v) cs .
 
 -- two lists of calls end in areas equal in every word
 unfoldable pub sameArea : List ℕ → List (List ℤ) → List (List ℤ) → Bool
-unfolding ran sameValues sameValue
-sameArea bs cs ds = sameValues (ran bs cs .1) (ran bs ds .1)
+unfolding ran sameWords sameWord
+sameArea bs cs ds = sameWords (ran bs cs .1) (ran bs ds .1)
 
 -- the calls that are left after striking out
 unfoldable pub callsLeft : List ℕ → List (List ℤ) → List (List ℤ)
-unfolding ran strike marks mark place callsOf parse parsed formedIf natural natOf allZero all sameValue
+unfolding ran strike marks mark place callsOf parse parsed formedIf natural natOf allZero all sameWord
 callsLeft bs cs = callsOf (strike (ran bs cs .0) .line)
 
 -- the orphan list on the last area, for a lent list
 unfoldable pub listedAfter : List ℕ → List (List ℤ) → List Orphan → Listed × List Orphan
-unfolding ran listOrphans lentAfter orphanList orphansFrom orphanRows recordIf listAnswer listed listVerdict schemaVerdict orphanTotal bit startsWith headerRest headerRules maskRule sizeRules tableRest tableRules columnRule newColumn columnsRule codeRules keyRest keyRules wellFormed checkSchema tableFrom actionFrom matchFrom uniqueIs hasParentKey isBroken columnMask keyFrom schemaOf allFrom anyFrom andAll every listFrom all tableSize rowsSize tableOffset areaSize levelOf entryOf tablesOf levelPart rowPart recordPart view naturalHead legible inTable sameCell sameKey fullKey halfKey mapsTo halfDue due serves orphan orphans any count flat chunks one number failing rowAt liveState live nullAt valueAt inTransaction openerFits keptInRange savedInRange usesRise placed undamaged sameValue natOf natural inRange
+unfolding ran listOrphans lentAfter orphanList orphansFrom orphanRows recordIf listAnswer listed listVerdict schemaVerdict orphanTotal bit startsWith headerRest headerRules maskRule sizeRules tableRest tableRules columnRule newColumn columnsRule codeRules keyRest keyRules wellFormed checkSchema tableFrom actionFrom matchFrom uniqueIs hasParentKey isBroken keyFolds columnMask foldsOf keyFrom schemaOf allFrom anyFrom andAll every listFrom all tableSize rowsSize tableOffset areaSize levelOf entryOf tablesOf levelPart rowPart recordPart view naturalHead legible inTable sameCell sameKey fullKey halfKey mapsTo halfDue due serves orphan orphans any count flat chunks one number failing rowAt liveState live nullAt valueAt inTransaction openerFits keptInRange savedInRange usesRise placed undamaged raised eachByte folded sameValue sameWord natOf natural inRange
 listedAfter bs cs before = listOrphans bs (ran bs cs .1) before

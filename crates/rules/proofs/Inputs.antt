@@ -11,15 +11,25 @@ use Rattle.rules.specs.Lists.{padded}
 unfoldable pub half : ℕ → List ℕ
 half n = n % 256 ∷ n / 256 ∷ []
 
--- a table: rows, columns, NOT NULL mask, one unique-key mask, mask of the columns whose default is NULL; the other defaults are 0
-unfoldable nullDefaults : ℕ → ℕ → ℕ → ℕ → ℕ → List ℕ
+-- a table: rows, columns, NOT NULL mask, one unique-key mask, masks of the columns whose default is NULL and of folded columns; the other defaults are 0
+unfoldable tableWith : ℕ → ℕ → ℕ → ℕ → ℕ → ℕ → List ℕ
 unfolding half
-nullDefaults rows columns notNull unique null = half rows ++ (columns ∷ notNull ∷ unique ∷ 0 ∷ 0 ∷ 0 ∷ null ∷ replicate 71 0)
+tableWith rows columns notNull unique null folded = half rows ++ (columns ∷ notNull ∷ unique ∷ 0 ∷ 0 ∷ 0 ∷ null ∷ folded ∷ replicate 70 0)
 
--- a table whose defaults are 0
+-- one with no folded column
+unfoldable nullDefaults : ℕ → ℕ → ℕ → ℕ → ℕ → List ℕ
+unfolding tableWith
+nullDefaults rows columns notNull unique null = tableWith rows columns notNull unique null 0
+
+-- one whose defaults are 0
 unfoldable pub tableBytes : ℕ → ℕ → ℕ → ℕ → List ℕ
 unfolding nullDefaults
 tableBytes rows columns notNull unique = nullDefaults rows columns notNull unique 0
+
+-- the same with folded columns
+unfoldable foldedTable : ℕ → ℕ → ℕ → ℕ → ℕ → List ℕ
+unfolding tableWith
+foldedTable rows columns notNull unique folded = tableWith rows columns notNull unique 0 folded
 
 -- a foreign key of one column: child table and column, parent table and column, deferred, on delete, on update
 unfoldable pub keyBytes : ℕ → ℕ → ℕ → ℕ → ℕ → ℕ → ℕ → List ℕ
@@ -82,6 +92,21 @@ halfDrawn action room = schemaBytes 3 2 room (tableBytes 2 1 1 1 ++ tableBytes 2
 unfoldable pub notDrawn : List ℕ
 unfolding schemaBytes tableBytes keyBytes
 notDrawn = schemaBytes 3 2 8 (tableBytes 2 1 1 1 ++ tableBytes 2 1 1 1 ++ tableBytes 2 1 1 1 ++ keyBytes 1 0 200 255 0 4 4 ++ keyBytes 2 0 2 1 0 4 4)
+
+-- sensors by name and readings of them by the sensor's name, with one action: which columns of either table are folded
+unfoldable pub named : ℕ → ℕ → ℕ → List ℕ
+unfolding schemaBytes foldedTable keyBytes
+named sensors readings action = schemaBytes 2 1 8 (foldedTable 2 1 1 1 sensors ++ foldedTable 3 1 0 0 readings ++ keyBytes 1 0 0 0 0 action action)
+
+-- sensors unique by name and leg, the names folded
+unfoldable pub namedLegs : List ℕ
+unfolding schemaBytes foldedTable
+namedLegs = schemaBytes 1 0 8 (foldedTable 3 2 0 3 1)
+
+-- readings whose one column names a sensor of table 0, whose names are folded, and one of table 1, whose names are not
+unfoldable pub namedTwice : List ℕ
+unfolding schemaBytes foldedTable tableBytes keyBytes
+namedTwice = schemaBytes 3 2 8 (foldedTable 2 1 1 1 1 ++ tableBytes 2 1 1 1 ++ tableBytes 2 1 0 0 ++ keyBytes 2 0 0 0 1 4 4 ++ keyBytes 2 0 1 0 1 4 4)
 
 -- ---- calls, as twelve words
 

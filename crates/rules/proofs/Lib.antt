@@ -7,3 +7,4 @@ pub mod ManyRows
 pub mod OldKey
 pub mod MatchFull
 pub mod BrokenKeys
+pub mod FoldedColumns

@@ -7,7 +7,7 @@ use Prim.Native.Nat.{ℕ}
 use lib.IntN.{pos}
 use lib.ListN.{replicate}
 use Rattle.schema.specs.Bytes.{bit}
-use Rattle.rules.specs.Values.{sameValue, natOf}
+use Rattle.rules.specs.Values.{sameWord, folded, sameValue, natOf}
 use Rattle.rules.specs.Rows.{Row, liveState, live, nullAt, valueAt}
 use Rattle.rules.specs.Found.{cellIs}
 use Rattle.rules.specs.KeyValues.{keyValues, holdsKey, hasKey}
@@ -22,8 +22,8 @@ rows =
     ((256, 7, 2) ∷ (256, 7, 3) ∷ (256, 8, 2) ∷ (257, 7, 2) ∷ (258, 7, 2) ∷ (255, 7, 2) ∷ (512, 7, 2) ∷ (0, 7, 2) ∷ [])
 
 -- "exactly if it is live and has that key": not with another value, NULL whatever its word, or vacant
-pub has-key : map (hasKey (0 ∷ 1 ∷ []) (keyValues (1 ∷ 0 ∷ []) (pos 256 ∷ pos 2 ∷ pos 7 ∷ []))) rows ≡ true ∷ replicate 7 false
-unfolding keyValues hasKey holdsKey cellIs live liveState nullAt valueAt natOf sameValue bit
+pub has-key : map (hasKey [] (0 ∷ 1 ∷ []) (keyValues (1 ∷ 0 ∷ []) (pos 256 ∷ pos 2 ∷ pos 7 ∷ []))) rows ≡ true ∷ replicate 7 false
+unfolding keyValues hasKey holdsKey cellIs live liveState nullAt valueAt natOf sameWord folded sameValue bit
 has-key = refl
 
 unfoldable pub oldKeys : List Case

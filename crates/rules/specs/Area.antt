@@ -14,7 +14,7 @@ use Rattle.rules.specs.declared.Refusal.the-variants.{WrongLength, BadCa
 use Rattle.rules.specs.declared.Answer.{Answer}
 use Rattle.rules.specs.declared.Answer.the-variants.{Refused}
 use Rattle.rules.specs.Lists.{𝟘, flat, chunks}
-use Rattle.rules.specs.Values.{natOf, natural, sameValue}
+use Rattle.rules.specs.Values.{natOf, natural, sameWord}
 use Rattle.rules.specs.Rows.{Tables}
 use Rattle.rules.specs.Book.{Entry, Level, Book}
 use Rattle.rules.specs.Calls.{parse, allowed}
@@ -94,7 +94,7 @@ legible s ws =
     ∷ natural (getD ws 1 𝟘)
     ∷ natural (getD ws 2 𝟘)
     ∷ leb (natOf (getD ws 2 𝟘)) (s .room)
-    ∷ sameValue 𝟘 (getD ws 3 𝟘)
+    ∷ sameWord 𝟘 (getD ws 3 𝟘)
     ∷ all naturalHead (take (natOf (getD ws 0 𝟘)) (levelPart ws))
     ∷ all naturalHead (take (natOf (getD ws 2 𝟘)) (recordPart s ws))
     ∷ [])

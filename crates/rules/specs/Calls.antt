@@ -9,7 +9,7 @@ use lib.ListN.{length, getD, drop}
 use Rattle.schema.specs.Bytes.{bit}
 use Rattle.schema.specs.Records.{Table, Schema, tableOf}
 use Rattle.rules.specs.Lists.{𝟘}
-use Rattle.rules.specs.Values.{natOf, natural, sameValue, sameValues, allZero}
+use Rattle.rules.specs.Values.{natOf, natural, sameWord, sameWords, allZero}
 use Rattle.rules.specs.Rows.{held}
 
 pub data Call : Type 0 where
@@ -64,7 +64,7 @@ inTable s t r = ltb r (tableOf s t .rows)
 
 -- a mask and eight values for a table: no bit and no value past its columns, 0 in NULL columns
 unfoldable pub rowFits : Table → ℕ → List ℤ → Bool
-rowFits t m vs = ltb m (2 ^ t .columns) && allZero (drop (t .columns) vs) && sameValues vs (held m 0 vs)
+rowFits t m vs = ltb m (2 ^ t .columns) && allZero (drop (t .columns) vs) && sameWords vs (held m 0 vs)
 
 -- column c is in table t; none is in a table that is not there
 unfoldable pub inColumns : Schema → ℕ → ℕ → Bool
@@ -79,7 +79,7 @@ setsNull m = bit 1 m
 
 -- the value beside a NULL is 0
 unfoldable pub valueFits : Bool → ℤ → Bool
-valueFits null v = not null || sameValue 𝟘 v
+valueFits null v = not null || sameWord 𝟘 v
 
 unfoldable pub levelNumber : ℕ → Bool
 levelNumber a = leb 1 a && leb a 9

@@ -6,7 +6,7 @@ use Prim.Native.Nat.{ℕ, zero, suc, _+_, _-_, _^_}
 use lib.Dec.{eqb}
 use lib.IntN.{ℤ, pos}
 use lib.ListN.{length, getD, set}
-use Rattle.schema.specs.Bytes.{bit}
+use Rattle.schema.specs.Bytes.{bit, foldsOf}
 use Rattle.schema.specs.declared.Action.{Action}
 use Rattle.schema.specs.declared.Action.the-variants.{NoAction, Restrict, SetNull, SetDefault, Cascade}
 use Rattle.schema.specs.Records.{Table, ForeignKey, Schema, tableOf}
@@ -49,13 +49,16 @@ unfoldable pub notNullBroken : Table → Row → Bool
 notNullBroken t new = any (λ c. bit c (t .notNull) && nullAt new c) (upFrom 0 (t .columns))
 
 -- a row other than r, counted from i on, is live and has the new row's key
-unfoldable pub twice : List ℕ → ℕ → Row → ℕ → List Row → Bool
-twice cs r new i [] = false
-twice cs r new i (x ∷ xs) = elim (not (eqb i r) && (live x && sameKey cs cs x new)) [ true ↦ true | false ↦ twice cs r new (suc i) xs ]
+unfoldable pub twice : List Bool → List ℕ → ℕ → Row → ℕ → List Row → Bool
+twice fs cs r new i [] = false
+twice fs cs r new i (x ∷ xs) = elim (not (eqb i r) && (live x && sameKey fs cs cs x new)) [ true ↦ true | false ↦ twice fs cs r new (suc i) xs ]
 
--- not "no other live row equal, a key with NULL equals none"
+-- the unique key of a mask is broken, in a table with these folded columns: not "no other live row equal, a key with NULL equals none". "Unique keys .. use their own column's marking"
+unfoldable pub maskBroken : ℕ → ℕ → Row → List Row → ℕ → Bool
+maskBroken folded r new rows m = not (eqb m 0) && (fullKey (maskColumns m) new && twice (foldsOf folded (maskColumns m)) (maskColumns m) r new 0 rows)
+
 unfoldable pub uniqueBroken : Table → ℕ → Row → List Row → Bool
-uniqueBroken t r new rows = any (λ m. not (eqb m 0) && (fullKey (maskColumns m) new && twice (maskColumns m) r new 0 rows)) (t .uniques)
+uniqueBroken t r new rows = any (maskBroken (t .folded) r new rows) (t .uniques)
 
 -- 15, 23, 16, 17, in this order: 23 "comes between 15 and 16"; "a deletion passes both" 16 and 17
 unfoldable pub admits : Schema → ℕ → ℕ → Row → Work → Verdict

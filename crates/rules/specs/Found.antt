@@ -3,6 +3,7 @@
 use mathlib.Core.Bool.{Bool, true, false, not, _&&_}
 use Prim.Native.Nat.{ℕ}
 use lib.IntN.{ℤ}
+use Rattle.schema.specs.Bytes.{bit}
 use Rattle.schema.specs.Records.{Schema, tableOf}
 use Rattle.rules.specs.Lists.{upFrom}
 use Rattle.rules.specs.Values.{sameValue}
@@ -10,14 +11,14 @@ use Rattle.rules.specs.Rows.{Row, rowAt, image, live, nullAt, valueAt, n
 use Rattle.rules.specs.Book.{Work}
 use Rattle.rules.specs.Change.{Result, given, inTurn, setCell, change}
 
--- column c is NULL where NULL is sought, else it holds the sought value. "NULL equals nothing."
-unfoldable pub cellIs : Bool → ℤ → ℕ → Row → Bool
-cellIs true v c row = nullAt row c
-cellIs false v c row = not (nullAt row c) && sameValue v (valueAt row c)
+-- column c, folded or not, is NULL where NULL is sought, else it holds the sought value. "NULL equals nothing."
+unfoldable pub cellIs : Bool → Bool → ℤ → ℕ → Row → Bool
+cellIs f true v c row = nullAt row c
+cellIs f false v c row = not (nullAt row c) && sameValue f v (valueAt row c)
 
--- the row is found: it is live, and its column c is as sought
-unfoldable pub isFound : ℕ → Bool → ℤ → Row → Bool
-isFound c null v row = live row && cellIs null v c row
+-- the row is found, in a table with these folded columns: it is live, and its column c is as sought. The search uses its "own column's marking"
+unfoldable pub isFound : ℕ → ℕ → Bool → ℤ → Row → Bool
+isFound folded c null v row = live row && cellIs (bit c folded) null v c row
 
 -- the row as it is, with column d set; written in normal form
 unfoldable pub rowSet : ℕ → ℕ → Bool → ℤ → Row → Row

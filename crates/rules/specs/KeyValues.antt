@@ -4,6 +4,7 @@ use mathlib.Core.Bool.{Bool, true, false, _&&_}
 use mathlib.Core.List.{List, [], _∷_, map}
 use Prim.Native.Nat.{ℕ}
 use lib.IntN.{ℤ}
+use lib.ListN.{getD, drop}
 use Rattle.schema.specs.Records.{ForeignKey, Schema}
 use Rattle.rules.specs.Rows.{Row, Tables, rowAt, image, live, valueAt}
 use Rattle.rules.specs.Book.{Work}
@@ -14,19 +15,19 @@ use Rattle.rules.specs.Found.{cellIs}
 unfoldable pub keyValues : List ℕ → Row → List ℤ
 keyValues cs row = map (valueAt row) cs
 
--- columns cs hold the values vs, and none of them is NULL
-unfoldable pub holdsKey : List ℕ → List ℤ → Row → Bool
-holdsKey [] vs row = true
-holdsKey (c ∷ cs) [] row = true
-holdsKey (c ∷ cs) (v ∷ vs) row = cellIs false v c row && holdsKey cs vs row
+-- columns cs hold the values vs, compared folded where fs says so, and none of them is NULL
+unfoldable pub holdsKey : List Bool → List ℕ → List ℤ → Row → Bool
+holdsKey fs [] vs row = true
+holdsKey fs (c ∷ cs) [] row = true
+holdsKey fs (c ∷ cs) (v ∷ vs) row = cellIs (getD fs 0 false) false v c row && holdsKey (drop 1 fs) cs vs row
 
 -- the row "is live and has that key"
-unfoldable pub hasKey : List ℕ → List ℤ → Row → Bool
-hasKey cs vs row = live row && holdsKey cs vs row
+unfoldable pub hasKey : List Bool → List ℕ → List ℤ → Row → Bool
+hasKey fs cs vs row = live row && holdsKey fs cs vs row
 
 -- child row i has the values vs in the child columns
 unfoldable pub childHasKey : ForeignKey → List ℤ → Tables → ℕ → Bool
-childHasKey k vs tabs i = hasKey (k .childColumns) vs (rowAt (k .child) i tabs)
+childHasKey k vs tabs i = hasKey (k .folds) (k .childColumns) vs (rowAt (k .child) i tabs)
 
 -- `rowTurn` and `children` of a row change, with the values of the old key in place of the old row
 module _ (change : Change) (s : Schema) (new : Row) where

@@ -5,7 +5,7 @@ use mathlib.Core.List.{List, [], _∷_, map}
 use Prim.Native.Nat.{ℕ, zero, suc}
 use lib.Dec.{eqb}
 use lib.IntN.{ℤ, pos}
-use lib.ListN.{getD}
+use lib.ListN.{getD, drop}
 use Rattle.schema.specs.Bytes.{bit}
 use Rattle.schema.specs.Ranges.{all}
 use Rattle.schema.specs.Records.{ForeignKey, Schema}
@@ -15,19 +15,19 @@ use Rattle.rules.specs.Lists.{any, count, padded}
 use Rattle.rules.specs.Values.{sameValue}
 use Rattle.rules.specs.Rows.{Row, Tables, live, nullAt, valueAt}
 
--- column c of row x and column d of row y are equal. "NULL equals nothing."
-unfoldable pub sameCell : Row → Row → ℕ → ℕ → Bool
-sameCell x y c d = sameValue (valueAt x c) (valueAt y d) && (not (nullAt x c) && not (nullAt y d))
+-- column c of row x and column d of row y are equal, compared as in a folded column or not. "NULL equals nothing."
+unfoldable pub sameCell : Bool → Row → Row → ℕ → ℕ → Bool
+sameCell f x y c d = sameValue f (valueAt x c) (valueAt y d) && (not (nullAt x c) && not (nullAt y d))
 
--- the key of row x in columns cs and that of row y in columns ds are equal. A key with NULL equals none, not even itself
-unfoldable pub sameKey : List ℕ → List ℕ → Row → Row → Bool
-sameKey [] ds x y = true
-sameKey (c ∷ cs) [] x y = true
-sameKey (c ∷ cs) (d ∷ ds) x y = elim (sameCell x y c d) [ true ↦ sameKey cs ds x y | false ↦ false ]
+-- the key of row x in columns cs and that of row y in columns ds are equal; fs says which pairs are folded, none past its end. A key with NULL equals none, not even itself
+unfoldable pub sameKey : List Bool → List ℕ → List ℕ → Row → Row → Bool
+sameKey fs [] ds x y = true
+sameKey fs (c ∷ cs) [] x y = true
+sameKey fs (c ∷ cs) (d ∷ ds) x y = elim (sameCell (getD fs 0 false) x y c d) [ true ↦ sameKey (drop 1 fs) cs ds x y | false ↦ false ]
 
 -- a live row with no NULL in its key
 unfoldable pub fullKey : List ℕ → Row → Bool
-fullKey cs row = live row && sameKey cs cs row row
+fullKey cs row = live row && not (any (nullAt row) cs)
 
 -- a live row "with some but not all key columns NULL"
 unfoldable pub halfKey : List ℕ → Row → Bool
@@ -41,9 +41,9 @@ maskColumnsFrom m i (suc n) = elim (bit i m) [ true ↦ i ∷ maskColumnsFrom m 
 unfoldable pub maskColumns : ℕ → List ℕ
 maskColumns m = maskColumnsFrom m 0 8
 
--- the child row maps to this parent row: the equal key
+-- the child row maps to this parent row: the equal key. "a foreign key uses the parent column's" marking
 unfoldable pub mapsTo : ForeignKey → Row → Row → Bool
-mapsTo k child parent = sameKey (k .childColumns) (k .parentColumns) child parent
+mapsTo k child parent = sameKey (k .folds) (k .childColumns) (k .parentColumns) child parent
 
 -- "Under 1, a live child row with some but not all key columns NULL is an orphan also."
 unfoldable pub halfDue : Match → List ℕ → Row → Bool
@@ -76,7 +76,7 @@ takes k old row = live row && mapsTo k row old
 
 -- row x is live and has row y's parent key
 unfoldable pub sameParentKey : ForeignKey → Row → Row → Bool
-sameParentKey k y x = live x && sameKey (k .parentColumns) (k .parentColumns) x y
+sameParentKey k y x = live x && sameKey (k .folds) (k .parentColumns) (k .parentColumns) x y
 
 -- "Actions follow a delete, or an update whose new parent key is not the old one, if the old key has no NULL." Of a broken key none follow: 23 comes first
 unfoldable pub fires : Row → ℕ → Row → ForeignKey → Bool

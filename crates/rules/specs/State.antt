@@ -9,7 +9,7 @@ use lib.ListN.{length}
 use Rattle.schema.specs.Ranges.{all}
 use Rattle.schema.specs.Records.{ForeignKey, Schema, tableOf}
 use Rattle.rules.specs.Lists.{𝟘}
-use Rattle.rules.specs.Values.{sameValue, inRange}
+use Rattle.rules.specs.Values.{sameWord, inRange}
 use Rattle.rules.specs.Book.{Entry, Level, Book}
 use Rattle.rules.specs.Calls.{inTable}
 
@@ -26,7 +26,7 @@ openerFits false n = eqb n 0
 -- no kept number is "below 0 or above the child's R, or nonzero past F"
 unfoldable pub keptInRange : Schema → List ForeignKey → List ℤ → Bool
 keptInRange s ks [] = true
-keptInRange s [] (x ∷ xs) = sameValue 𝟘 x && keptInRange s [] xs
+keptInRange s [] (x ∷ xs) = sameWord 𝟘 x && keptInRange s [] xs
 keptInRange s (k ∷ ks) (x ∷ xs) = inRange (tableOf s (k .child) .rows) x && keptInRange s ks xs
 
 -- "a saved one of an open level"

@@ -11,7 +11,7 @@ use Rattle.rules.specs.declared.Refusal.the-variants.{RowState, KeptOutO
 use Rattle.rules.specs.declared.Answer.{Answer}
 use Rattle.rules.specs.declared.Answer.the-variants.{Done, Refused}
 use Rattle.rules.specs.Lists.{𝟘, sum, less, plus}
-use Rattle.rules.specs.Values.{sameValue, allZero}
+use Rattle.rules.specs.Values.{sameWord, allZero}
 use Rattle.rules.specs.Rows.{Row}
 use Rattle.rules.specs.Keys.{counts}
 use Rattle.rules.specs.Book.{Work, Book, emptied, cleared}
@@ -36,7 +36,7 @@ demand false r k b = (Refused r, cleared b)
 unfoldable pub immediateZero : List ForeignKey → List ℤ → Bool
 immediateZero ks [] = true
 immediateZero [] (x ∷ xs) = true
-immediateZero (k ∷ ks) (x ∷ xs) = (k .deferred || sameValue 𝟘 x) && immediateZero ks xs
+immediateZero (k ∷ ks) (x ∷ xs) = (k .deferred || sameWord 𝟘 x) && immediateZero ks xs
 
 -- not refused by 20: not "an immediate key, or outside a transaction any key, has a kept number not zero"
 unfoldable pub enforced : Bool → Schema → List ℤ → Bool

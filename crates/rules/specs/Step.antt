@@ -54,8 +54,8 @@ act s (release a) b = check (levelOpen b a) LevelState (released (eqb a 1) (suc 
 act s (rollbackTo a) b = check (levelOpen b a) LevelState (λ b. rolled (back (length (b .levels) - a) b) b) b
 act s rollback b = check (inTransaction (b .levels)) LevelState (λ b. rolled (abort b) b) b
 act s commit b = check (inTransaction (b .levels)) LevelState committed b
-act s (deleteWhere t c m v) b = statement s (rowsFound s t (isFound c (seeksNull m) v) (λ x. deletedImage)) b
-act s (updateWhere t c m v d y) b = statement s (rowsFound s t (isFound c (seeksNull m) v) (rowSet (tableOf s t .columns) d (setsNull m) y)) b
+act s (deleteWhere t c m v) b = statement s (rowsFound s t (isFound (tableOf s t .folded) c (seeksNull m) v) (λ x. deletedImage)) b
+act s (updateWhere t c m v d y) b = statement s (rowsFound s t (isFound (tableOf s t .folded) c (seeksNull m) v) (rowSet (tableOf s t .columns) d (setsNull m) y)) b
 
 -- "Order: .. 4, 10, then 11 to 13, .."
 unfoldable pub step : Schema → List ℤ → Book → Turn

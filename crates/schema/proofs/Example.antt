@@ -37,10 +37,10 @@ pub schemaS : Schema
 schemaS =
     record {
       tables =
-          record { rows = 4; columns = 1; notNull = 1; uniques = 1 ∷ 0 ∷ 0 ∷ 0 ∷ []; defaultNull = 0; defaults = replicate 8 (pos 0) }
-          ∷ record { rows = 4; columns = 2; notNull = 1; uniques = 1 ∷ 0 ∷ 0 ∷ 0 ∷ []; defaultNull = 0; defaults = replicate 8 (pos 0) }
+          record { rows = 4; columns = 1; notNull = 1; uniques = 1 ∷ 0 ∷ 0 ∷ 0 ∷ []; defaultNull = 0; folded = 0; defaults = replicate 8 (pos 0) }
+          ∷ record { rows = 4; columns = 2; notNull = 1; uniques = 1 ∷ 0 ∷ 0 ∷ 0 ∷ []; defaultNull = 0; folded = 0; defaults = replicate 8 (pos 0) }
           ∷ [];
-      keys = record { child = 1; parent = 0; deferred = true; onDelete = Cascade; onUpdate = Cascade; childColumns = 1 ∷ []; parentColumns = 0 ∷ []; match = Simple; broken = false } ∷ [];
+      keys = record { child = 1; parent = 0; deferred = true; onDelete = Cascade; onUpdate = Cascade; childColumns = 1 ∷ []; parentColumns = 0 ∷ []; match = Simple; broken = false; folds = false ∷ [] } ∷ [];
       room = 8;
     }
 
@@ -49,7 +49,7 @@ unfolding checkSchema Check.wellFormed Check.headerRules Check.startsWith Check.
 s-accepted = refl
 
 pub s-is : schemaOf bytesS ≡ schemaS
-unfolding schemaOf Fields.tableFrom Fields.keyFrom Fields.actionFrom Fields.matchFrom Fields.columnRule Fields.uniqueIs Fields.hasParentKey Fields.isBroken Bytes.columnMask allFrom anyFrom listFrom bytesS schemaS
+unfolding schemaOf Fields.tableFrom Fields.keyFrom Fields.actionFrom Fields.matchFrom Fields.columnRule Fields.uniqueIs Fields.hasParentKey Fields.isBroken Fields.keyFolds Bytes.columnMask Bytes.foldsOf Bytes.bit allFrom anyFrom listFrom bytesS schemaS
 s-is = refl
 
 pub s-size : Sizes.areaSize schemaS ≡ 433
@@ -73,3 +73,16 @@ broken-keys = refl
 pub match-2 : checkSchema (set bytesS 190 2) ≡ Malformed
 unfolding checkSchema Check.wellFormed Check.headerRules Check.startsWith Check.headerRest Check.tableRules Check.sizeRules Check.tableRest Check.maskRule Check.keyRules Check.codeRules Check.keyRest Fields.columnRule Check.columnsRule Check.newColumn Bytes.bit allFrom every andAll bytesS
 match-2 = refl
+
+-- S with table 0's column folded, with one that it has not, with one of its zero bytes changed, and with column 1 of table 1 folded
+pub foldedS : List (List ℕ)
+foldedS = set bytesS 25 1 ∷ set bytesS 25 2 ∷ set bytesS 26 1 ∷ set bytesS 105 2 ∷ []
+
+pub folded-columns : map checkSchema foldedS ≡ Accepted ∷ Malformed ∷ Malformed ∷ Accepted ∷ []
+unfolding checkSchema Check.wellFormed Check.headerRules Check.startsWith Check.headerRest Check.tableRules Check.sizeRules Check.tableRest Check.maskRule Check.keyRules Check.codeRules Check.keyRest Fields.columnRule Check.columnsRule Check.newColumn Bytes.bit allFrom every andAll foldedS bytesS
+folded-columns = refl
+
+-- its foreign key compares by the parent column's mark alone
+pub key-folds : map (λ (bs : List ℕ). keyOf (schemaOf bs) 0 .folds) (set bytesS 25 1 ∷ set bytesS 105 2 ∷ []) ≡ (true ∷ []) ∷ (false ∷ []) ∷ []
+unfolding schemaOf Fields.tableFrom Fields.keyFrom Fields.actionFrom Fields.matchFrom Fields.keyFolds Bytes.foldsOf Bytes.bit listFrom bytesS
+key-folds = refl

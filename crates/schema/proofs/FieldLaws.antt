@@ -107,6 +107,10 @@ module _ (bs : List ℕ) (acc : Check.checkSchema bs ≡ Accepted) where
     unfolding tableFrom
     read-default-null e = e ∙ sym (ap (λ (x : Table). x .defaultNull) (table-is bs t h))
 
+    pub read-folded : {r : ℕ} → r ≡ Fields.foldedOf bs t → r ≡ tableOf (schemaOf bs) t .folded
+    unfolding tableFrom
+    read-folded e = e ∙ sym (ap (λ (x : Table). x .folded) (table-is bs t h))
+
     pub read-default : (c : ℕ) → c < 8 → {r : ℤ} → r ≡ Fields.defaultOf bs t c → r ≡ getD (tableOf (schemaOf bs) t .defaults) c (pos 0)
     unfolding tableFrom
     read-default c l e = e ∙ sym (ap (λ (x : Table). getD (x .defaults) c (pos 0)) (table-is bs t h) ∙ get-list (Fields.defaultOf bs t) 8 c (pos 0) l)
@@ -175,6 +179,13 @@ module _ (bs : List ℕ) (acc : Check.checkSchema bs ≡ Accepted) where
     pub read-match : {r : Match} → r ≡ Fields.matchFrom (Fields.matchOf bs k) → r ≡ keyOf (schemaOf bs) k .match
     unfolding keyFrom
     read-match e = e ∙ sym (ap (λ (x : ForeignKey). x .match) (key-is bs k h))
+
+    -- a key that is not broken compares its pairs as the parent table marks their columns
+    pub folds-are : keyOf (schemaOf bs) k .broken ≡ false → keyOf (schemaOf bs) k .folds ≡ Bytes.foldsOf (tableOf (schemaOf bs) (keyOf (schemaOf bs) k .parent) .folded) (keyOf (schemaOf bs) k .parentColumns)
+    unfolding keyFrom tableFrom Fields.keyFolds
+    folds-are u =
+        let there : Fields.parentOf bs k < length (schemaOf bs .tables) = rw (key-is bs k h) at (parent-key bs acc k h u .there) in
+        rw (key-is bs k h, table-is bs (Fields.parentOf bs k) there) refl
 
     -- as many parent columns as child columns
     pub same-width : length (keyOf (schemaOf bs) k .parentColumns) ≡ length (keyOf (schemaOf bs) k .childColumns)

@@ -71,7 +71,7 @@ codes bs k e =
 -- what the rules of a table's record say, as tests
 pub record TableTests (bs : List ℕ) (t : ℕ) : Type 0 where
   pub sizes : Sizes bs t
-  pub masks : allFrom (Check.maskRule bs (Fields.tableStart t + 3) (Fields.columnsOf bs t)) 6 0 ≡ true
+  pub masks : allFrom (Check.maskRule bs (Fields.tableStart t + 3) (Fields.columnsOf bs t)) 7 0 ≡ true
   pub defaults : allFrom (Check.defaultRule bs t) 8 0 ≡ true
 
 table-tests : (bs : List ℕ) (t : ℕ) → Check.tableRules bs t ≡ true → TableTests bs t

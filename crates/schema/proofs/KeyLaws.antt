@@ -76,7 +76,7 @@ module _ (bs : List ℕ) (f : Formed bs) where
   pub unique-high : (t : ℕ) → t < Fields.tableCount bs → (i : ℕ) → i < 4 → Fields.uniqueOf bs t i / 2 ^ Fields.columnsOf bs t ≡ 0
   unfolding Check.maskRule
   unique-high t h i l =
-      let r = all-at (Check.maskRule bs (Fields.tableStart t + 3) (Fields.columnsOf bs t)) 6 0 (f .table t h .masks) (i + 1) (omega arith) in
+      let r = all-at (Check.maskRule bs (Fields.tableStart t + 3) (Fields.columnsOf bs t)) 7 0 (f .table t h .masks) (i + 1) (omega arith) in
       let at : Fields.tableStart t + 3 + (0 + (i + 1)) ≡ Fields.tableStart t + 4 + i = omega arith in
       eqb-true _ _ (rw at at r)
 

@@ -11,6 +11,7 @@ use borrow.Author.Tests.{eqb-true, eqb-false, ne-eqb, ltb-true, ltb-false}
 use lib.Count.{ones, onesIn, ones-step}
 use lib.Dec.{eqb, ltb}
 use Rattle.schema.specs.Bytes.{bit, columnMask}
+use Rattle.schema.specs.Marks.{marked, Marks}
 
 bit-suc : (c m : ℕ) → bit (suc c) m ≡ bit c (m / 2)
 unfolding bit
@@ -189,3 +190,34 @@ quotient-none m w e =
 -- a byte has no bit at 64 and above
 pub bit-high : (m i : ℕ) → m < 256 → 64 ≤ i → bit i m ≡ false
 bit-high m i h l = bit-over i m (lt-of-lt-of-le h (pow-mono {i = 8} (omega arith)))
+
+-- ---- masks, number by number
+module _ (test : ℕ → Bool) where
+  pub marks-start : Marks test 0 0
+  marks-start = record { below = omega arith; each = λ k h. absurd (omega arith) }
+
+  module _ (n m : ℕ) (h : Marks test n m) where
+    absent : bit n m ≡ false
+    absent = bit-over n m (h .below)
+
+    two : 2 ^ (n + 1) ≡ 2 ^ n + 2 ^ n
+    two = rw (add-one n) (omega (arith, pow-suc 2 n))
+
+    put-in : true ≡ test n → Marks test (n + 1) (m + 2 ^ n)
+    put-in e = record { below = omega (arith, h .below, two); each = λ k l. at k (eqb k n) refl l }
+      where
+        at : (k : ℕ) (t : Bool) → eqb k n ≡ t → k < n + 1 → bit k (m + 2 ^ n) ≡ test k
+        at k true q l = let r : k ≡ n = eqb-true k n q in rw r (added-same n m absent ∙ e)
+        at k false q l = let r : k ≡ n → ⊥ = eqb-false k n q in added-other n k m absent r ∙ h .each k (omega arith)
+
+    left-out : false ≡ test n → Marks test (n + 1) m
+    left-out e = record { below = omega (arith, h .below, two); each = λ k l. at k (eqb k n) refl l }
+      where
+        at : (k : ℕ) (t : Bool) → eqb k n ≡ t → k < n + 1 → bit k m ≡ test k
+        at k true q l = let r : k ≡ n = eqb-true k n q in rw r (absent ∙ e)
+        at k false q l = let r : k ≡ n → ⊥ = eqb-false k n q in h .each k (omega arith)
+
+    pub marks-more : (b : Bool) → b ≡ test n → Marks test (n + 1) (marked m n b)
+    unfolding marked
+    marks-more true e = put-in e
+    marks-more false e = left-out e

@@ -1,7 +1,7 @@
 -- Numbers in bytes. "Little-endian; all fields unsigned except the defaults."
 -- Assumes nothing.
 use mathlib.Core.Bool.{Bool}
-use mathlib.Core.List.{List, [], _∷_}
+use mathlib.Core.List.{List, [], _∷_, map}
 use Prim.Native.Nat.{ℕ, zero, suc, _+_, _*_, _/_, _%_, _^_}
 use lib.Dec.{eqb}
 use lib.IntN.{ℤ}
@@ -32,6 +32,10 @@ signedWord bs i = toZ w64 (word bs i)
 -- "Bit i of a mask is column i"
 unfoldable pub bit : ℕ → ℕ → Bool
 bit i m = eqb (m / 2 ^ i % 2) 1
+
+-- for each column, whether it is in a mask of folded columns
+unfoldable pub foldsOf : ℕ → List ℕ → List Bool
+foldsOf m cs = map (λ c. bit c m) cs
 
 -- the mask of the columns p 0, .., p (n - 1), which are distinct
 unfoldable pub columnMask : (ℕ → ℕ) → ℕ → ℕ

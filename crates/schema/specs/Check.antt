@@ -75,11 +75,11 @@ sizeRules bs t =
 unfoldable pub tableRest : List ℕ → ℕ → Bool
 tableRest bs t =
     every
-    (allFrom (maskRule bs (Fields.tableStart t + 3) (Fields.columnsOf bs t)) 6 0  -- NOT NULL, four unique keys, default-is-NULL
+    (allFrom (maskRule bs (Fields.tableStart t + 3) (Fields.columnsOf bs t)) 7 0  -- NOT NULL, four unique keys, default-is-NULL, folded
     ∷ uniqueRule bs t 0
     ∷ uniqueRule bs t 1
     ∷ uniqueRule bs t 2
-    ∷ allFrom (isByte bs (Fields.tableStart t + 9) 0) 7 0  -- seven zero bytes
+    ∷ allFrom (isByte bs (Fields.tableStart t + 10) 0) 6 0  -- six zero bytes
     ∷ allFrom (defaultRule bs t) 8 0
     ∷ [])
 

@@ -5,7 +5,7 @@ use mathlib.Core.List.{List}
 use Prim.Native.Nat.{ℕ, _+_, _*_}
 use lib.Dec.{ltb, eqb}
 use lib.IntN.{ℤ}
-use Rattle.schema.specs.Bytes.{byte, half, signedWord, columnMask}
+use Rattle.schema.specs.Bytes.{byte, half, signedWord, foldsOf, columnMask}
 use Rattle.schema.specs.declared.Action.{Action}
 use Rattle.schema.specs.declared.Action.the-variants.{NoAction, Restrict, SetNull, SetDefault, Cascade}
 use Rattle.schema.specs.declared.Match.{Match}
@@ -48,6 +48,10 @@ uniqueOf bs t i = byte bs (tableStart t + 4 + i)
 abbrev pub defaultNullOf : List ℕ → ℕ → ℕ
 defaultNullOf bs t = byte bs (tableStart t + 8)
 
+-- "Byte 9 of a table record becomes a mask of folded columns."
+abbrev pub foldedOf : List ℕ → ℕ → ℕ
+foldedOf bs t = byte bs (tableStart t + 9)
+
 -- the default of column c, 0 to 7
 abbrev pub defaultOf : List ℕ → ℕ → ℕ → ℤ
 defaultOf bs t c = signedWord bs (tableStart t + 16 + 8 * c)
@@ -60,6 +64,7 @@ tableFrom bs t =
       notNull = notNullOf bs t;
       uniques = listFrom (uniqueOf bs t) 4 0;
       defaultNull = defaultNullOf bs t;
+      folded = foldedOf bs t;
       defaults = listFrom (defaultOf bs t) 8 0;
     }
 
@@ -130,6 +135,10 @@ isBroken bs k = not (hasParentKey bs k)
 
 -- ---- the foreign key
 
+-- "a foreign key uses the parent column's" marking
+unfoldable pub keyFolds : List ℕ → ℕ → List Bool
+keyFolds bs k = foldsOf (foldedOf bs (parentOf bs k)) (listFrom (parentColumnOf bs k) (widthOf bs k) 0)
+
 unfoldable pub keyFrom : List ℕ → ℕ → ForeignKey
 keyFrom bs k =
     record {
@@ -142,6 +151,7 @@ keyFrom bs k =
       parentColumns = listFrom (parentColumnOf bs k) (widthOf bs k) 0;
       match = matchFrom (matchOf bs k);
       broken = isBroken bs k;
+      folds = keyFolds bs k;
     }
 
 -- ---- the whole

@@ -1,6 +1,7 @@
 pub mod Bounds
 pub mod Ranges
 pub mod Bytes
+pub mod Marks
 pub mod Records
 pub mod Fields
 pub mod Check

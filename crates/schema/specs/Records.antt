@@ -16,6 +16,7 @@ pub record Table : Type 0 where
   pub notNull : ℕ  -- a mask
   pub uniques : List ℕ  -- four masks, 0 for unused
   pub defaultNull : ℕ  -- a mask
+  pub folded : ℕ  -- a mask
   pub defaults : List ℤ  -- eight
 
 pub record ForeignKey : Type 0 where
@@ -28,6 +29,7 @@ pub record ForeignKey : Type 0 where
   pub parentColumns : List ℕ
   pub match : Match
   pub broken : Bool  -- it has no parent key
+  pub folds : List Bool  -- for each pair, whether its parent column is folded; those of a broken key mean nothing
 
 pub record Schema : Type 0 where
   pub tables : List Table
@@ -35,10 +37,10 @@ pub record Schema : Type 0 where
   pub room : ℕ  -- of the journal, in records
 
 abbrev pub noTable : Table
-noTable = record { rows = 0; columns = 0; notNull = 0; uniques = []; defaultNull = 0; defaults = [] }
+noTable = record { rows = 0; columns = 0; notNull = 0; uniques = []; defaultNull = 0; folded = 0; defaults = [] }
 
 abbrev pub noKey : ForeignKey
-noKey = record { child = 0; parent = 0; deferred = false; onDelete = NoAction; onUpdate = NoAction; childColumns = []; parentColumns = []; match = Simple; broken = false }
+noKey = record { child = 0; parent = 0; deferred = false; onDelete = NoAction; onUpdate = NoAction; childColumns = []; parentColumns = []; match = Simple; broken = false; folds = [] }
 
 -- table t; one without rows where there is none
 abbrev pub tableOf : Schema → ℕ → Table
