@@ -104,6 +104,14 @@ pub fn default_null(bytes: &[u8], t: usize) -> usize
     table_byte(bytes, t, 8)
 }
 
+// The mask of folded columns of table t.
+pub fn folded(bytes: &[u8], t: usize) -> usize
+    requires { ⌜ (checkSchema (now bytes) ≡ SchemaAnswer.Accepted) × (t < length (schemaOf (now bytes) .tables)) ⌝ }
+    ensures { λ r. ⌜ (r ≡ tableOf (schemaOf (now (bytes .entry))) t .folded) × (r < 256) ⌝ }
+{
+    table_byte(bytes, t, 9)
+}
+
 // The default of column c of table t.
 pub fn default_value(bytes: &[u8], t: usize, c: usize) -> i64
     requires { ⌜ (checkSchema (now bytes) ≡ SchemaAnswer.Accepted) × ((t < length (schemaOf (now bytes) .tables)) × (c < 8)) ⌝ }

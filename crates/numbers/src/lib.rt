@@ -7,6 +7,7 @@ ghost use mir.Syntax.{w64};
 ghost use mir.Val.{toZ};
 ghost use Rattle.schema.specs.Bytes.{byte, half, word, signedWord, bit};
 ghost use Rattle.schema.specs.Fields.{keyStart};
+ghost use Rattle.schema.specs.Marks.{marked};
 
 // A byte as a number.
 pub fn wide(x: u8) -> usize
@@ -101,6 +102,17 @@ pub fn power(i: usize) -> usize
     ensures { λ r. ⌜ r ≡ 2 ^ i ⌝ }
 {
     1 << i
+}
+
+// A mask of numbers below k, with k in it or not.
+pub fn marked(m: usize, k: usize, b: bool) -> usize
+    requires { ⌜ (k < 63) × (m < 2 ^ k) ⌝ }
+    ensures { λ x. ⌜ x ≡ marked m k b ⌝ }
+{
+    if b {
+        return m + power(k);
+    }
+    m
 }
 
 // Where the record of foreign key k begins.

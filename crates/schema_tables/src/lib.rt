@@ -176,11 +176,11 @@ fn table_rules(s: &[u8], t: usize) -> bool
     }
     let at = 16 + 80 * t;
     let columns = numbers::byte_at(s, at + 2);
-    mask_rules(s, at + 3, columns, 6)
+    mask_rules(s, at + 3, columns, 7)
         & unique_rule(s, t, 0)
         & unique_rule(s, t, 1)
         & unique_rule(s, t, 2)
-        & all_bytes(s, at + 9, 0, 0, 7)
+        & all_bytes(s, at + 10, 0, 0, 6)
         & default_rules(s, t)
 }
 

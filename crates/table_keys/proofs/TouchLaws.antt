@@ -1,21 +1,17 @@
--- Keys that touch a table, and masks of them.
+-- Keys that touch a table.
 -- Assumes nothing.
 use mathlib.Core.Path.{_≡_, refl, sym, _∙_}
 use mathlib.Core.Bool.{Bool, true, false, not, _&&_, _||_, true≢false, false≢true}
 use mathlib.Core.List.{List}
-use Prim.Native.Nat.{ℕ, _+_, _^_, _<_}
-use native.Mathlib.Nat.{pow-suc}
-use native.Mathlib.Numerals.{add-one}
-use native.Mathlib.Omega.{arith}
-use borrow.Author.Tests.{eq-eqb, ne-eqb, eqb-true, eqb-false, not-true, not-false}
+use Prim.Native.Nat.{ℕ, _<_}
+use borrow.Author.Tests.{eq-eqb, ne-eqb, not-true, not-false}
 use lib.Dec.{eqb}
 use lib.ListN.{length}
 use Rattle.schema.specs.Bytes.{bit}
 use Rattle.schema.specs.Records.{ForeignKey, keyOf}
 use Rattle.schema.specs.Fields.{schemaOf}
-use Rattle.schema.proofs.MaskLaws.{bit-over, added-same, added-other}
 use Rattle.rules.specs.Keys.{uses}
-use Rattle.table_keys.specs.Touched.{touches, wholeAt, brokenAt, brokenUsed, marked, Marks, WholeKeys}
+use Rattle.table_keys.specs.Touched.{touches, wholeAt, brokenAt, brokenUsed, WholeKeys}
 
 -- ---- one foreign key
 module _ (t : ℕ) (k : ForeignKey) where
@@ -76,34 +72,3 @@ module _ {b : List ℕ} {t m : ℕ} (h : WholeKeys b t m) (k : ℕ) (l : k < len
 
   pub not-whole : not x ≡ true → wholeAt t (keyOf (schemaOf b) k) ≡ false
   not-whole f = sym (h .each k l) ∙ sym e ∙ not-true _ f
-
--- ---- masks, number by number
-module _ (test : ℕ → Bool) where
-  pub marks-start : Marks test 0 0
-  marks-start = record { below = omega arith; each = λ k h. absurd (omega arith) }
-
-  module _ (n m : ℕ) (h : Marks test n m) where
-    absent : bit n m ≡ false
-    absent = bit-over n m (h .below)
-
-    two : 2 ^ (n + 1) ≡ 2 ^ n + 2 ^ n
-    two = rw (add-one n) (omega (arith, pow-suc 2 n))
-
-    put-in : true ≡ test n → Marks test (n + 1) (m + 2 ^ n)
-    put-in e = record { below = omega (arith, h .below, two); each = λ k l. at k (eqb k n) refl l }
-      where
-        at : (k : ℕ) (t : Bool) → eqb k n ≡ t → k < n + 1 → bit k (m + 2 ^ n) ≡ test k
-        at k true q l = let r : k ≡ n = eqb-true k n q in rw r (added-same n m absent ∙ e)
-        at k false q l = let r : k ≡ n → ⊥ = eqb-false k n q in added-other n k m absent r ∙ h .each k (omega arith)
-
-    left-out : false ≡ test n → Marks test (n + 1) m
-    left-out e = record { below = omega (arith, h .below, two); each = λ k l. at k (eqb k n) refl l }
-      where
-        at : (k : ℕ) (t : Bool) → eqb k n ≡ t → k < n + 1 → bit k m ≡ test k
-        at k true q l = let r : k ≡ n = eqb-true k n q in rw r (absent ∙ e)
-        at k false q l = let r : k ≡ n → ⊥ = eqb-false k n q in h .each k (omega arith)
-
-    pub marks-more : (b : Bool) → b ≡ test n → Marks test (n + 1) (marked m n b)
-    unfolding marked
-    marks-more true e = put-in e
-    marks-more false e = left-out e

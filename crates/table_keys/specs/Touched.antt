@@ -1,9 +1,9 @@
 -- The foreign keys that touch a table, as masks of their numbers.
 -- Assumes nothing.
 use mathlib.Core.Path.{_≡_}
-use mathlib.Core.Bool.{Bool, true, false, not, _&&_, _||_}
+use mathlib.Core.Bool.{Bool, not, _&&_, _||_}
 use mathlib.Core.List.{List}
-use Prim.Native.Nat.{ℕ, _+_, _^_, _<_}
+use Prim.Native.Nat.{ℕ, _<_}
 use lib.Dec.{eqb}
 use lib.ListN.{length}
 use Rattle.schema.specs.Bytes.{bit}
@@ -27,16 +27,6 @@ brokenAt t k = touches t k && k .broken
 -- it is broken, and used by the change of a row of table t that lives after it or not, and lived before it or not
 unfoldable pub brokenUsed : Bool → ℕ → Bool → ForeignKey → Bool
 brokenUsed lives t lived k = k .broken && uses lives t lived k
-
--- a mask with k put in, or as it is
-unfoldable pub marked : ℕ → ℕ → Bool → ℕ
-marked m k true = m + 2 ^ k
-marked m k false = m
-
--- the mask has those of the first n numbers that pass the test
-pub record Marks (test : ℕ → Bool) (n m : ℕ) : Type 0 where
-  pub below : m < 2 ^ n
-  pub each : (k : ℕ) → k < n → bit k m ≡ test k
 
 -- the mask has the foreign keys that touch table t and have a parent key
 pub record WholeKeys (b : List ℕ) (t m : ℕ) : Type 0 where

@@ -1,13 +1,13 @@
 // The foreign keys that touch a table, whole and broken ones apart, and whether a row change uses a broken one.
 ghost use mathlib.Core.Path.{_≡_};
-ghost use Prim.Native.Nat.{_<_, _^_};
+ghost use Prim.Native.Nat.{_<_};
 ghost use lib.Dec.{eqb};
 ghost use lib.ListN.{length};
 ghost use Rattle.schema.specs.Records.{keyOf};
 ghost use Rattle.schema.specs.Fields.{schemaOf};
 ghost use Rattle.schema.specs.Check.{checkSchema};
 ghost use Rattle.rules.specs.Lists;
-ghost use Rattle.table_keys.specs.Touched.{touches, wholeAt, brokenAt, brokenUsed, marked, BrokenKeys, KeysOf};
+ghost use Rattle.table_keys.specs.Touched.{touches, wholeAt, brokenAt, brokenUsed, BrokenKeys, KeysOf};
 use schema::SchemaAnswer;
 
 // The foreign keys whose child or parent a table is, as masks of their numbers: those with a parent key, and the broken ones.
@@ -40,17 +40,6 @@ fn touch_of(schema: &[u8], k: usize, t: usize) -> usize
     1
 }
 
-// A mask of numbers below k, with k in it or not.
-fn marked(m: usize, k: usize, b: bool) -> usize
-    requires { ⌜ (k < 32) × (m < 2 ^ k) ⌝ }
-    ensures { λ x. ⌜ x ≡ marked m k b ⌝ }
-{
-    if b {
-        return m + numbers::power(k);
-    }
-    m
-}
-
 // The foreign keys that touch table t.
 pub fn keys_of(schema: &[u8], t: usize) -> TableKeys
     requires { ⌜ checkSchema (now schema) ≡ SchemaAnswer.Accepted ⌝ }
@@ -62,8 +51,8 @@ pub fn keys_of(schema: &[u8], t: usize) -> TableKeys
     let mut k = 0;
     while k < n {
         let touch = touch_of(schema, k, t);
-        whole = marked(whole, k, touch == 1);
-        broken = marked(broken, k, touch == 2);
+        whole = numbers::marked(whole, k, touch == 1);
+        broken = numbers::marked(broken, k, touch == 2);
         k += 1;
     }
     TableKeys {

@@ -5,8 +5,9 @@ use borrow.Author.Needs.{needs}
 use lib.ListN.{length}
 use Rattle.schema.specs.Records.{keyOf}
 use Rattle.schema.specs.Fields.{schemaOf}
-use Rattle.table_keys.specs.Touched.{wholeAt, brokenAt, Marks}
-use Rattle.table_keys.proofs.TouchLaws.{marks-start, marks-more}
+use Rattle.schema.specs.Marks.{Marks}
+use Rattle.schema.proofs.MaskLaws.{marks-start, marks-more}
+use Rattle.table_keys.specs.Touched.{wholeAt, brokenAt}
 use Rattle.table_keys.proofs.keys_of.Statement.{statement}
 use Rattle.table_keys.proofs.keys_of.Tie as tie
 

@@ -3,9 +3,9 @@ use Prim.Native.Nat.{ℕ, _+_, _^_, _<_}
 use native.Mathlib.Omega.{arith}
 use lib.Pow.{pow-lt}
 use borrow.Author.Needs.{needs}
-use Rattle.table_keys.specs.Touched.{marked}
-use Rattle.table_keys.proofs.marked.Statement.{statement}
-use Rattle.table_keys.proofs.marked.Tie as tie
+use Rattle.schema.specs.Marks.{marked}
+use Rattle.numbers.proofs.marked.Statement.{statement}
+use Rattle.numbers.proofs.marked.Tie as tie
 
 power-requires : tie.Need-power-requires
 power-requires c κs = search needs
@@ -13,7 +13,7 @@ power-requires c κs = search needs
 add-result : tie.Need-add-result
 add-result c =
     let s = c .before .before in
-    let h : 2 ^ s .args .k < 2 ^ 32 = pow-lt (s .pre .0) in
+    let h : 2 ^ s .args .k < 2 ^ 63 = pow-lt (s .pre .0) in
     omega (arith, c .power .ensures)
 
 returns : tie.Need-returns
