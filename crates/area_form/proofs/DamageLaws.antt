@@ -17,7 +17,7 @@ use Rattle.schema.specs.Fields.{schemaOf}
 use Rattle.schema.specs.Sizes.{rowsSize, areaSize}
 use Rattle.schema.proofs.RangeLaws.{and-left, and-right}
 use Rattle.rules.specs.Lists.{𝟘}
-use Rattle.rules.specs.Values.{natOf, natural, inRange, sameValue}
+use Rattle.rules.specs.Values.{natOf, natural, inRange, sameWord}
 use Rattle.rules.specs.Book.{Level}
 use Rattle.rules.specs.Calls.{inTable}
 use Rattle.rules.specs.State.{inTransaction, openerFits, keptInRange, savedInRange, usesRise, placed}
@@ -54,7 +54,7 @@ pub record Counts (s : Schema) (a : List ℤ) : Type 0 where
 pub header-counts : (s : Schema) (a : List ℤ) → headerInRange s a ≡ true → Counts s a
 unfolding headerInRange
 header-counts s a e =
-    let p : inRange 9 (getD a 0 𝟘) && natural (getD a 1 𝟘) && inRange (s .room) (getD a 2 𝟘) ≡ true = and-left _ (sameValue 𝟘 (getD a 3 𝟘)) e in
+    let p : inRange 9 (getD a 0 𝟘) && natural (getD a 1 𝟘) && inRange (s .room) (getD a 2 𝟘) ≡ true = and-left _ (sameWord 𝟘 (getD a 3 𝟘)) e in
     let q : inRange 9 (getD a 0 𝟘) && natural (getD a 1 𝟘) ≡ true = and-left _ (inRange (s .room) (getD a 2 𝟘)) p in
     record {
       levels = in-range 9 (getD a 0 𝟘) (and-left _ (natural (getD a 1 𝟘)) q);
@@ -74,8 +74,8 @@ unfolding legible headerInRange every andAll
 legible-parts s a =
     let ls : Bool = all naturalHead (take (natOf (getD a 0 𝟘)) (levelPart a)) in
     let rs : Bool = all naturalHead (take (natOf (getD a 2 𝟘)) (recordPart s a)) in
-    regroup (natural (getD a 0 𝟘) && leb (natOf (getD a 0 𝟘)) 9 && natural (getD a 1 𝟘)) (natural (getD a 2 𝟘)) (leb (natOf (getD a 2 𝟘)) (s .room)) (sameValue 𝟘 (getD a 3 𝟘)) ls rs
-    ∙ ap₂ (λ x y. x && natural (getD a 1 𝟘) && y && sameValue 𝟘 (getD a 3 𝟘) && (ls && rs)) (in-range-is 9 (getD a 0 𝟘)) (in-range-is (s .room) (getD a 2 𝟘))
+    regroup (natural (getD a 0 𝟘) && leb (natOf (getD a 0 𝟘)) 9 && natural (getD a 1 𝟘)) (natural (getD a 2 𝟘)) (leb (natOf (getD a 2 𝟘)) (s .room)) (sameWord 𝟘 (getD a 3 𝟘)) ls rs
+    ∙ ap₂ (λ x y. x && natural (getD a 1 𝟘) && y && sameWord 𝟘 (getD a 3 𝟘) && (ls && rs)) (in-range-is 9 (getD a 0 𝟘)) (in-range-is (s .room) (getD a 2 𝟘))
 
 pub legible-not : (s : Schema) (a : List ℤ) → headerInRange s a ≡ false → false ≡ legible s a
 legible-not s a e = sym (legible-parts s a ∙ ap (λ t. t && (all naturalHead (take (natOf (getD a 0 𝟘)) (levelPart a)) && all naturalHead (take (natOf (getD a 2 𝟘)) (recordPart s a)))) e)
@@ -101,8 +101,8 @@ module _ (s : Schema) (a : List ℤ) (size : length a ≡ areaSize s) where
 
 -- ---- kept numbers
 
-zero-range : (w : ℤ) → sameValue 𝟘 w ≡ inRange 0 w
-unfolding sameValue inRange
+zero-range : (w : ℤ) → sameWord 𝟘 w ≡ inRange 0 w
+unfolding sameWord inRange
 zero-range (pos zero) = refl
 zero-range (pos (suc n)) = eqb·zero-suc n ∙ sym (leb·suc-zero n)
 zero-range (negsuc n) = refl

@@ -12,7 +12,7 @@ use Rattle.schema.specs.Fields.{schemaOf}
 use Rattle.schema.specs.Check.{checkSchema}
 use Rattle.schema.specs.Sizes.{areaSize}
 use Rattle.rules.specs.Lists.{𝟘}
-use Rattle.rules.specs.Values.{natural, inRange, sameValue}
+use Rattle.rules.specs.Values.{natural, inRange, sameWord}
 use Rattle.rules.specs.Book.{Level}
 use Rattle.rules.specs.Area.{levelOf, levelPart}
 
@@ -23,7 +23,7 @@ pub record Sized (b : List ℕ) (a : List ℤ) : Type 0 where
 
 -- words 0 to 3 in range
 unfoldable pub headerInRange : Schema → List ℤ → Bool
-headerInRange s a = inRange 9 (getD a 0 𝟘) && natural (getD a 1 𝟘) && inRange (s .room) (getD a 2 𝟘) && sameValue 𝟘 (getD a 3 𝟘)
+headerInRange s a = inRange 9 (getD a 0 𝟘) && natural (getD a 1 𝟘) && inRange (s .room) (getD a 2 𝟘) && sameWord 𝟘 (getD a 3 𝟘)
 
 -- the first word of part i is not below 0, where parts of `stride` words begin at `at`
 unfoldable pub naturalPart : List ℤ → ℕ → ℕ → ℕ → Bool

@@ -15,7 +15,7 @@ use Rattle.schema.specs.Records.{Table, Schema, noTable, tableOf}
 use Rattle.schema.proofs.RangeLaws.{and-left, and-right}
 use Rattle.schema.proofs.Formed.{and3}
 use Rattle.rules.specs.Lists.{𝟘}
-use Rattle.rules.specs.Values.{natOf, natural, sameValue, sameValues, allZero}
+use Rattle.rules.specs.Values.{natOf, natural, sameWord, sameWords, allZero}
 use Rattle.rules.specs.Rows.{held, liveImage}
 use Rattle.rules.specs.Calls.{Call, malformed, insert, update, delete, begin, savepoint, release, rollbackTo, rollback, commit, deleteWhere, updateWhere, formedIf, parsed, parse, inTable, rowFits, inColumns, seeksNull, setsNull, valueFits, levelNumber, allowed}
 use Rattle.bridge.proofs.Bits.{same-eq}
@@ -78,17 +78,17 @@ no-call : (c : Call) → c ≡ malformed → isCall c ≡ true → ⊥
 unfolding isCall
 no-call c e h = let z : true ≡ false = sym h ∙ ap isCall e in let y : _≡_ {A = ℕ} 0 1 = cc in omega arith
 
-same-values : (xs ys : List ℤ) → sameValues xs ys ≡ true → xs ≡ ys
-unfolding sameValues
+same-values : (xs ys : List ℤ) → sameWords xs ys ≡ true → xs ≡ ys
+unfolding sameWords
 same-values [] [] h = refl
 same-values [] (y ∷ ys) h = absurd (false≢true h)
 same-values (x ∷ xs) [] h = absurd (false≢true h)
-same-values (x ∷ xs) (y ∷ ys) h = ap₂ (λ v vs. v ∷ vs) (same-eq x y (and-left (sameValue x y) (sameValues xs ys) h)) (same-values xs ys (and-right (sameValue x y) (sameValues xs ys) h))
+same-values (x ∷ xs) (y ∷ ys) h = ap₂ (λ v vs. v ∷ vs) (same-eq x y (and-left (sameWord x y) (sameWords xs ys) h)) (same-values xs ys (and-right (sameWord x y) (sameWords xs ys) h))
 
 fits-image : (t : Table) (m : ℕ) (vs : List ℤ) → rowFits t m vs ≡ true → GivenImage (t .columns) m vs
 unfolding rowFits liveImage
 fits-image t m vs e =
-    let p = and3 (ltb m (2 ^ t .columns)) (allZero (drop (t .columns) vs)) (sameValues vs (held m 0 vs)) e in
+    let p = and3 (ltb m (2 ^ t .columns)) (allZero (drop (t .columns) vs)) (sameWords vs (held m 0 vs)) e in
     let l : m < 2 ^ t .columns = ltb-true m (2 ^ t .columns) (p .0) in
     record { mask = l; image = ap₂ (λ n l. pos (256 + n) ∷ l) (mod-eq-of-lt l) (sym (same-values vs (held m 0 vs) (p .2))) }
 

@@ -15,7 +15,7 @@ use lib.Pow.{pow-pos}
 use lib.Seq.{drop-cons}
 use Rattle.schema.specs.Bytes.{bit}
 use Rattle.rules.specs.Lists.{𝟘}
-use Rattle.rules.specs.Values.{sameValue, sameValues}
+use Rattle.rules.specs.Values.{sameWord, sameWords}
 use Rattle.rules.specs.Rows.{held}
 use Rattle.rules.specs.Calls.{valueFits}
 use Rattle.bridge.proofs.Bits.{same-refl}
@@ -34,34 +34,34 @@ mask-is m c = go (ltb m (2 ^ c)) refl
 
 -- ---- values of NULL columns
 
-zero-sym : (v : ℤ) → sameValue v 𝟘 ≡ sameValue 𝟘 v
-unfolding sameValue
+zero-sym : (v : ℤ) → sameWord v 𝟘 ≡ sameWord 𝟘 v
+unfolding sameWord
 zero-sym (pos zero) = refl
 zero-sym (pos (suc n)) = eqb·suc-zero n ∙ sym (eqb·zero-suc n)
 zero-sym (negsuc n) = refl
 
-fits-is : (b : Bool) (v : ℤ) → sameValue v (elim b [ true ↦ 𝟘 | false ↦ v ]) ≡ valueFits b v
+fits-is : (b : Bool) (v : ℤ) → sameWord v (elim b [ true ↦ 𝟘 | false ↦ v ]) ≡ valueFits b v
 unfolding valueFits
 fits-is true v = zero-sym v
 fits-is false v = same-refl v
 
 -- the values from column i on
 unfoldable pub valuesFrom : ℕ → ℕ → List ℤ → Bool
-valuesFrom m i ws = sameValues (drop (4 + i) ws) (held m i (drop (4 + i) ws))
+valuesFrom m i ws = sameWords (drop (4 + i) ws) (held m i (drop (4 + i) ws))
 
 module _ (ws : List ℤ) (m i : ℕ) where
   pub values-none : length ws ≤ 4 + i → valuesFrom m i ws ≡ true
-  unfolding valuesFrom sameValues held
+  unfolding valuesFrom sameWords held
   values-none h = rw (drop-of-length-le ws h) refl
 
   module _ (h : 4 + i < length ws) where
     values-more : valuesFrom m i ws ≡ valueFits (bit i m) (getD ws (4 + i) 𝟘) && valuesFrom m (i + 1) ws
-    unfolding valuesFrom sameValues held
+    unfolding valuesFrom sameWords held
     values-more =
         let e : 4 + (i + 1) ≡ suc (4 + i) = omega arith in
         rw (e, add-one i)
-        (ap (λ l. sameValues l (held m i l)) (drop-cons ws (4 + i) 𝟘 h)
-        ∙ ap (λ t. t && sameValues (drop (suc (4 + i)) ws) (held m (suc i) (drop (suc (4 + i)) ws))) (fits-is (bit i m) (getD ws (4 + i) 𝟘)))
+        (ap (λ l. sameWords l (held m i l)) (drop-cons ws (4 + i) 𝟘 h)
+        ∙ ap (λ t. t && sameWords (drop (suc (4 + i)) ws) (held m (suc i) (drop (suc (4 + i)) ws))) (fits-is (bit i m) (getD ws (4 + i) 𝟘)))
 
     pub values-stop : valueFits (bit i m) (getD ws (4 + i) 𝟘) ≡ false → valuesFrom m i ws ≡ false
     values-stop e = values-more ∙ ap (λ t. t && valuesFrom m (i + 1) ws) e

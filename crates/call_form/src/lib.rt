@@ -8,7 +8,7 @@ ghost use Rattle.schema.specs.Bytes.{bit};
 ghost use Rattle.schema.specs.Records.{tableOf};
 ghost use Rattle.schema.specs.Fields.{schemaOf};
 ghost use Rattle.schema.specs.Check.{checkSchema};
-ghost use Rattle.rules.specs.Values.{natOf, allZero, sameValues};
+ghost use Rattle.rules.specs.Values.{natOf, allZero, sameWords};
 ghost use Rattle.rules.specs.Rows.{held};
 ghost use Rattle.rules.specs.Calls.{release, rollbackTo, formedIf, parsed, parse, rowFits, inColumns, valueFits, levelNumber, allowed};
 ghost use Rattle.call_form.specs.Requests.{callOf, judged, TwelveWords, namesRow, givesRow, namesLevel, naturalPlace};
@@ -56,7 +56,7 @@ fn value_fits(call: &[i64], m: usize, i: usize, k: usize) -> bool
 // Whether every value of a NULL column is 0.
 fn values_fit(call: &[i64], m: usize) -> bool
     requires { ⌜ length (now call) ≡ 12 ⌝ }
-    ensures { λ r. ⌜ r ≡ sameValues (drop 4 (now (call .entry))) (held m 0 (drop 4 (now (call .entry)))) ⌝ }
+    ensures { λ r. ⌜ r ≡ sameWords (drop 4 (now (call .entry))) (held m 0 (drop 4 (now (call .entry)))) ⌝ }
 {
     let mut i = 0;
     while i < 8 {

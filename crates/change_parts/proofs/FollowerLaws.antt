@@ -18,6 +18,7 @@ use Rattle.bridge.specs.Ready.{Ready, rowIn}
 use Rattle.rows.specs.declared.SoughtKey.{SoughtKey}
 use Rattle.rows.specs.declared.TableRows.{TableRows}
 use Rattle.rows.specs.Standing.{RowAt, Standing, rowsIn, RowsOf, PlacedAt}
+use Rattle.rows.specs.declared.KeyPairs.{KeyPairs}
 use Rattle.rows.specs.KeyColumns.{KeyColumns}
 use Rattle.rows.specs.Sought.{soughtValues, hasSought, SoughtIn, SoughtOf}
 use Rattle.rows.proofs.TableLaws.{child-table, rows-are, standing, placed-at, row-in, row-stands}
@@ -27,22 +28,22 @@ use Rattle.constraints.proofs.ServedLaws.{some-columns}
 use Rattle.change_parts.specs.declared.Followers.{Followers}
 use Rattle.change_parts.specs.Turns.{FollowersOf}
 
-pub followers-are : (b : List ℕ) (k : ℕ) (old new : Row) {t n : ℕ} {rows : TableRows} {cs ps : List ℕ} {key : SoughtKey} {act : Action} → KeyColumns b k n cs ps → t ≡ keyOf (schemaOf b) k .child → RowsOf b t rows → SoughtOf n cs ps old key → act ≡ actionOf new (keyOf (schemaOf b) k)
-    → FollowersOf b k new (record { table = t; rows = rows; key = key; ps = ps; action = act }) × (soughtValues key ≡ keyValues (keyOf (schemaOf b) k .parentColumns) old)
+pub followers-are : (b : List ℕ) (k : ℕ) (old new : Row) {t : ℕ} {rows : TableRows} {pairs : KeyPairs} {key : SoughtKey} {act : Action} → KeyColumns b k pairs → t ≡ keyOf (schemaOf b) k .child → RowsOf b t rows → SoughtOf (pairs .folded) (pairs .n) (pairs .cs) (pairs .ps) old key → act ≡ actionOf new (keyOf (schemaOf b) k)
+    → FollowersOf b k new (record { table = t; rows = rows; key = key; ps = pairs .ps; action = act }) × (soughtValues key ≡ keyValues (keyOf (schemaOf b) k .parentColumns) old)
 followers-are b k old new {key = key} c e o s a = (
-  record { columns = rw (s .width-is, s .columns-are) c; size = s .size; table-is = e; stand = o; action-is = a },
-  ap (λ (m : ℕ). take m (key .vs)) (s .width-is) ∙ s .values-are ∙ ap (λ (l : List ℕ). keyValues l old) (c .parent-is),
+  record { columns = rw (s .folded-is, s .width-is, s .columns-are) c; size = s .size; table-is = e; stand = o; action-is = a },
+  ap (λ (m : ℕ). take m (key .vs)) (s .width-is) ∙ s .values-are ∙ ap (λ (l : List ℕ). keyValues l old) (c .columns .parent-is),
 )
 
 module _ (b : List ℕ) (a : List ℤ) (r : Ready b a) (k : ℕ) (new : Row) (x : Followers) (f : FollowersOf b k new x) where
   pub table-there : x .table < length (schemaOf b .tables)
-  table-there = rw (f .table-is) (child-table b (r .accepted) k (f .columns .key))
+  table-there = rw (f .table-is) (child-table b (r .accepted) k (f .columns .columns .key))
 
   -- what the search for the next row requires
   pub search-ready : Standing a (x .rows) × ((1 ≤ x .key .n) × SoughtIn (x .rows .width) (x .key))
   search-ready = (
     standing b a r (x .table) table-there (x .rows) (f .stand),
-    (some-columns b k (x .key .n) (x .key .cs) (x .ps) (f .columns), record { columns = rw (f .stand .width-is, f .table-is) (f .columns .child-within); size = f .size }),
+    (some-columns b k (x .key .n) (x .key .cs) (x .ps) (f .columns .columns), record { columns = rw (f .stand .width-is, f .table-is) (f .columns .columns .child-within); size = f .size }),
   )
 
   pub rows-many : x .rows .count ≡ tableOf (schemaOf b) (keyOf (schemaOf b) k .child) .rows
@@ -57,7 +58,7 @@ module _ (b : List ℕ) (a : List ℤ) (r : Ready b a) (k : ℕ) (new : Row) (x 
   unfolding hasSought childHasKey rowAt
   found-first h =
       let q : rowsIn a (x .rows) ≡ getD (workOf (schemaOf b) a .tabs) (keyOf (schemaOf b) k .child) [] = rows-are b a r (x .table) table-there (x .rows) (f .stand) ∙ ap (λ (u : ℕ). getD (workOf (schemaOf b) a .tabs) u []) (f .table-is) in
-      rw (q, f .columns .child-is) at h
+      rw (q, f .columns .columns .child-is, f .columns .folds-are) at h
 
   -- so, for any values, in any area that is not refused, whatever the parent's row and the journal hold: the search that begins at row j, at its turn, finds it exactly if it is live, has no NULL in its child key and holds the values
   pub found-at-turn : (j : ℕ) → j < x .rows .count → {i : ℕ} → FirstRow (hasSought (x .key)) a (x .rows) j i → (i ≡ j → HasOldKey j ≡ true) × (HasOldKey j ≡ true → i ≡ j)

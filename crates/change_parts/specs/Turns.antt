@@ -13,6 +13,7 @@ use Rattle.rules.specs.Rows.{Row, deletedImage, live}
 use Rattle.rules.specs.Change.{childImage, actionOf}
 use Rattle.rows.specs.Standing.{RowsOf}
 use Rattle.rows.specs.KeyColumns.{KeyColumns}
+use Rattle.rows.specs.declared.KeyPairs.{KeyPairs}
 use Rattle.change_parts.specs.declared.Followers.{Followers}
 
 -- an action deletes the child row: CASCADE, where the parent row is deleted
@@ -27,9 +28,13 @@ deletesChild Cascade new = not (live new)
 unfoldable pub actionImage : Action → Schema → ForeignKey → Row → Row → Row
 actionImage a s k new x = elim (deletesChild a new) [ true ↦ deletedImage | false ↦ childImage a s k new x ]
 
+-- the column pairs by which child rows are gone through
+abbrev pub pairsOf : Followers → KeyPairs
+pairsOf x = record { n = x .key .n; folded = x .key .folded; cs = x .key .cs; ps = x .ps }
+
 -- what foreign key k's child rows are gone through by, when the parent row becomes `new`; whatever the old key is
 pub record FollowersOf (b : List ℕ) (k : ℕ) (new : Row) (x : Followers) : Type 0 where
-  pub columns : KeyColumns b k (x .key .n) (x .key .cs) (x .ps)
+  pub columns : KeyColumns b k (pairsOf x)
   pub size : length (x .key .vs) ≡ 8
   pub table-is : x .table ≡ keyOf (schemaOf b) k .child
   pub stand : RowsOf b (x .table) (x .rows)

@@ -114,10 +114,10 @@ pub fn followers_of(schema: &[u8], k: usize, old: [i64; 9], new: [i64; 9]) -> Fo
 {
     let t = fields::child(schema, k);
     let rows = rows::rows_of(schema, t);
-    let n = fields::width(schema, k);
-    let cs = fields::child_columns(schema, k);
-    let ps = fields::parent_columns(schema, k);
-    let key = rows::sought_key(old, n, cs, ps);
+    let pairs = rows::key_pairs(schema, k);
+    let cs = pairs.cs;
+    let ps = pairs.ps;
+    let key = rows::sought_key(old, pairs.folded, pairs.n, cs, ps);
     let action = action_of(schema, k, new);
     Followers {
         table: t,

@@ -6,6 +6,7 @@ use mathlib.Core.List.{List, [], _∷_}
 use Prim.Native.Nat.{ℕ, zero, suc, _+_, _-_, _≤_, _<_}
 use native.Mathlib.Numerals.{add-one}
 use native.Mathlib.Omega.{arith}
+use borrow.Author.Tests.{ne-eqb}
 use lib.Dec.{eqb}
 use lib.IntN.{ℤ}
 use lib.ListN.{length, drop}
@@ -25,6 +26,7 @@ use Rattle.rules.specs.Change.{Change, go, then, given, admits, admitted, actio
 use Rattle.rules.specs.KeyValues.{keyValues, childHasKey, turnByValues, childrenByValues}
 use Rattle.bridge.specs.Ready.{Placed, resultOf}
 use Rattle.schema.proofs.RangeLaws.{and-left, and-right}
+use Rattle.bridge.proofs.Tests.{fails}
 use Rattle.bridge.proofs.Undo.{spared}
 use Rattle.bridge.proofs.TurnLaws.{turns-start, turns-none, turns-past, turns-done, turns-refused}
 use Rattle.bridge.proofs.ValueLaws.{children-values}
@@ -111,6 +113,11 @@ not-whole-still new t old k h = go (eqb (k .child) t) (eqb (k .parent) t) (k .br
     go true true false e = absurd (true≢false e)
     go false true false e = absurd (true≢false e)
 
+-- nor has one of another parent table
+pub not-parent-still : (new : Row) (t : ℕ) (old : Row) (k : ForeignKey) → (k .parent ≡ t → ⊥) → fires new t old k ≡ false
+unfolding fires
+not-parent-still new t old k h = rw (ne-eqb (k .parent) t h)
+
 module _ (rec : Change) (s : Schema) (new : Row) (t : ℕ) (old : Row) (k : ForeignKey) (w : Work) where
   pub key-off : fires new t old k ≡ false → resultOf Pass w ≡ keyTurn rec s new t old k w
   unfolding keyTurn given resultOf
@@ -123,7 +130,7 @@ module _ (rec : Change) (s : Schema) (new : Row) (t : ℕ) (old : Row) (k : Fore
 
     pub key-on : {vs : List ℤ} → vs ≡ keyValues (k .parentColumns) old → childrenByValues rec s new k vs (upFrom 0 (tableOf s (k .child) .rows)) w ≡ keyTurn rec s new t old k w
     unfolding keyTurn given fullKey
-    key-on v = rw v (sym (rw e (children-values old k (and-right (live old) _ old-full) rec s new (upFrom 0 (tableOf s (k .child) .rows)) w)))
+    key-on v = rw v (sym (rw e (children-values old k (fails _ (and-right (live old) _ old-full)) rec s new (upFrom 0 (tableOf s (k .child) .rows)) w)))
 
 -- ---- a taken row
 module _ (rec : Change) (s : Schema) (new : Row) (k : ForeignKey) (j : ℕ) (x : Row) (w : Work) (a : Action) (ea : a ≡ actionOf new k) where

@@ -91,6 +91,9 @@ fn key_turn(
     if !numbers::bit_of(k, whole) {
         return Verdict::Pass;
     }
+    if fields::parent(schema, k) != t {
+        return Verdict::Pass;
+    }
     if !rows::fires(schema, t, old, new, k) {
         return Verdict::Pass;
     }

@@ -15,11 +15,11 @@ use Rattle.rules.specs.Rows.{Row, live}
 use Rattle.rules.specs.Keys.{fullKey, mapsTo, halfDue, serves, orphan}
 use Rattle.bridge.proofs.KeyLaws.{key-sym}
 use Rattle.bridge.proofs.NullKeys.{whole-due, half-orphan}
-use Rattle.rows.specs.KeyColumns.{KeyColumns}
+use Rattle.rows.specs.KeyColumns.{PairColumns}
 use Rattle.rows.specs.Sought.{withKey}
 
 -- a foreign key has a column
-pub some-columns : (b : List ℕ) (k n : ℕ) (cs ps : List ℕ) → KeyColumns b k n cs ps → 1 ≤ n
+pub some-columns : (b : List ℕ) (k n : ℕ) (cs ps : List ℕ) → PairColumns b k n cs ps → 1 ≤ n
 some-columns b k n cs ps c =
     let size : length (take n cs) ≡ n = length-take-le n cs (omega (arith, c .child-within .few, c .child-within .size)) in
     let width = read-width b (c .accepted) k (c .key) refl in
@@ -27,13 +27,13 @@ some-columns b k n cs ps c =
 
 module _ (k : ForeignKey) {cs : List ℕ} (e : cs ≡ k .childColumns) (x : Row) where
   -- the parent rows with its key
-  module _ {ps : List ℕ} (f : ps ≡ k .parentColumns) where
-    with-key-serves : (y : Row) → withKey ps cs x y ≡ serves k x y
+  module _ {ps : List ℕ} (f : ps ≡ k .parentColumns) {fs : List Bool} (g : fs ≡ k .folds) where
+    with-key-serves : (y : Row) → withKey fs ps cs x y ≡ serves k x y
     unfolding withKey serves mapsTo
-    with-key-serves y = rw (e, f) (ap (λ (b : Bool). live y && b) (key-sym y x (k .parentColumns) (k .childColumns)))
+    with-key-serves y = rw (e, f, g) (ap (λ (b : Bool). live y && b) (key-sym y x (k .folds) (k .parentColumns) (k .childColumns)))
 
-    pub any-serving : {ys zs : List Row} → ys ≡ zs → any (withKey ps cs x) ys ≡ any (serves k x) zs
-    any-serving {ys} {zs} g = (λ i. any (λ y. with-key-serves y i) ys) ∙ ap (any (serves k x)) g
+    pub any-serving : {ys zs : List Row} → ys ≡ zs → any (withKey fs ps cs x) ys ≡ any (serves k x) zs
+    any-serving {ys} {zs} h = (λ i. any (λ y. with-key-serves y i) ys) ∙ ap (any (serves k x)) h
 
   -- of a key that is not broken, a row with no NULL in its key is an orphan if nobody serves it; any other if it is half filled and the match is full
   module _ (whole : k .broken ≡ false) (ys : List Row) {full : Bool} (h : full ≡ fullKey cs x) where

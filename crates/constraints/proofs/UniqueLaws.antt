@@ -42,23 +42,23 @@ mask-some m h ne e =
     omega (arith, e, leb-true 1 (length (maskColumns m)) some)
 
 -- ---- a twin among the other rows
-module _ (cs : List ℕ) (new : Row) where
-  twice-cons : (r i : ℕ) (x : Row) (xs : List Row) → twice cs r new i (x ∷ xs) ≡ not (eqb i r) && withKey cs cs new x || twice cs r new (suc i) xs
+module _ (fs : List Bool) (cs : List ℕ) (new : Row) where
+  twice-cons : (r i : ℕ) (x : Row) (xs : List Row) → twice fs cs r new i (x ∷ xs) ≡ not (eqb i r) && withKey fs cs cs new x || twice fs cs r new (suc i) xs
   unfolding twice withKey
-  twice-cons r i x xs = go (not (eqb i r) && (live x && sameKey cs cs x new))
+  twice-cons r i x xs = go (not (eqb i r) && (live x && sameKey fs cs cs x new))
     where
-      go : (b : Bool) → elim b [ true ↦ true | false ↦ twice cs r new (suc i) xs ] ≡ b || twice cs r new (suc i) xs
+      go : (b : Bool) → elim b [ true ↦ true | false ↦ twice fs cs r new (suc i) xs ] ≡ b || twice fs cs r new (suc i) xs
       go true = refl
       go false = refl
 
-  twice-past : (r i : ℕ) (xs : List Row) → r < i → twice cs r new i xs ≡ any (withKey cs cs new) xs
+  twice-past : (r i : ℕ) (xs : List Row) → r < i → twice fs cs r new i xs ≡ any (withKey fs cs cs new) xs
   unfolding twice any
   twice-past r i [] h = refl
   twice-past r i (x ∷ xs) h =
       let other : eqb i r ≡ false = ne-eqb i r (λ e. omega (arith, e, h)) in
-      twice-cons r i x xs ∙ rw (other, twice-past r (suc i) xs (omega (arith, h))) (sym (any-cons (withKey cs cs new) x xs))
+      twice-cons r i x xs ∙ rw (other, twice-past r (suc i) xs (omega (arith, h))) (sym (any-cons (withKey fs cs cs new) x xs))
 
-  twice-from : (r i : ℕ) (xs : List Row) → twice cs (i + r) new i xs ≡ any (withKey cs cs new) (except r xs)
+  twice-from : (r i : ℕ) (xs : List Row) → twice fs cs (i + r) new i xs ≡ any (withKey fs cs cs new) (except r xs)
   unfolding twice any except
   twice-from zero i [] = refl
   twice-from (suc r) i [] = refl
@@ -68,7 +68,7 @@ module _ (cs : List ℕ) (new : Row) where
   twice-from (suc r) i (x ∷ xs) =
       let next : i + suc r ≡ suc i + r = omega arith in
       let other : eqb i (suc i + r) ≡ false = ne-eqb i (suc i + r) (λ e. omega (arith, e)) in
-      rw next (twice-cons (suc i + r) i x xs ∙ rw (other, twice-from r (suc i) xs) (sym (any-cons (withKey cs cs new) x (except r xs))))
+      rw next (twice-cons (suc i + r) i x xs ∙ rw (other, twice-from r (suc i) xs) (sym (any-cons (withKey fs cs cs new) x (except r xs))))
 
-  pub twice-except : (r : ℕ) (xs : List Row) → any (withKey cs cs new) (except r xs) ≡ twice cs r new 0 xs
+  pub twice-except : (r : ℕ) (xs : List Row) → any (withKey fs cs cs new) (except r xs) ≡ twice fs cs r new 0 xs
   twice-except r xs = let start : 0 + r ≡ r = omega arith in sym (rw start at (twice-from r 0 xs))

@@ -14,17 +14,25 @@ ghost use Rattle.rules.specs.Change;
 ghost use Rattle.bridge.specs.Fit.{workOf};
 ghost use Rattle.bridge.specs.Ready.{Ready, Placed};
 ghost use Rattle.rows.specs.Standing.{Standing, RowsOf, rowsIn};
-ghost use Rattle.rows.specs.KeyColumns.{KeyColumns, MaskWithin, maskBroken};
+ghost use Rattle.rows.specs.KeyColumns.{KeyColumns, MaskWithin};
+use rows::KeyPairs;
 use rows::TableRows;
 use schema::Match;
 use schema::SchemaAnswer;
 
 // ---- unique keys
 
-// Whether an image for row r breaks the unique key of a mask.
-fn mask_broken(area: &[i64], table: TableRows, r: usize, image: [i64; 9], m: usize) -> bool
+// Whether an image for row r breaks the unique key of a mask, in a table with these folded columns.
+fn mask_broken(
+    area: &[i64],
+    table: TableRows,
+    folded: usize,
+    r: usize,
+    image: [i64; 9],
+    m: usize,
+) -> bool
     requires { ⌜ (Standing (now area) table × (r < table .count)) × (MaskWithin (table .width) m × (m < 256)) ⌝ }
-    ensures { λ x. ⌜ x ≡ maskBroken r image (rowsIn (now (area .entry)) table) m ⌝ }
+    ensures { λ x. ⌜ x ≡ Change.maskBroken folded r image (rowsIn (now (area .entry)) table) m ⌝ }
 {
     if m == 0 {
         return false;
@@ -34,7 +42,8 @@ fn mask_broken(area: &[i64], table: TableRows, r: usize, image: [i64; 9], m: usi
     if !rows::image_full_key(image, n, cs) {
         return false;
     }
-    let key = rows::sought_key(image, n, cs, cs);
+    let folds = rows::folds_among(folded, n, cs);
+    let key = rows::sought_key(image, folds, n, cs, cs);
     scans::other_with_key(area, table, r, key)
 }
 
@@ -44,10 +53,11 @@ pub fn unique_broken(schema: &[u8], area: &[i64], t: usize, r: usize, image: [i6
     ensures { λ x. ⌜ x ≡ Change.uniqueBroken (tableOf (schemaOf (now (schema .entry))) t) r image (getD (workOf (schemaOf (now (schema .entry))) (now (area .entry)) .tabs) t []) ⌝ }
 {
     let table = rows::rows_of(schema, t);
+    let folded = fields::folded(schema, t);
     let mut u = 0;
     while u < 4 {
         let m = fields::unique_mask(schema, t, u);
-        if mask_broken(area, table, r, image, m) {
+        if mask_broken(area, table, folded, r, image, m) {
             return true;
         }
         u += 1;
@@ -64,14 +74,14 @@ fn is_served(
     k: usize,
     image: [i64; 9],
     parents: TableRows,
-    n: usize,
-    cs: [usize; 8],
-    ps: [usize; 8],
+    pairs: KeyPairs,
 ) -> bool
-    requires { ⌜ (Ready (now schema) (now area) × (Keys.fullKey (take n cs) image ≡ true)) × (KeyColumns (now schema) k n cs ps × RowsOf (now schema) (keyOf (schemaOf (now schema)) k .parent) parents) ⌝ }
+    requires { ⌜ (Ready (now schema) (now area) × (Keys.fullKey (take (pairs .n) (pairs .cs)) image ≡ true)) × (KeyColumns (now schema) k pairs × RowsOf (now schema) (keyOf (schemaOf (now schema)) k .parent) parents) ⌝ }
     ensures { λ x. ⌜ x ≡ Lists.any (Keys.serves (keyOf (schemaOf (now (schema .entry))) k) image) (getD (workOf (schemaOf (now (schema .entry))) (now (area .entry)) .tabs) (keyOf (schemaOf (now (schema .entry))) k .parent) []) ⌝ }
 {
-    let key = rows::sought_key(image, n, ps, cs);
+    let cs = pairs.cs;
+    let ps = pairs.ps;
+    let key = rows::sought_key(image, pairs.folded, pairs.n, ps, cs);
     scans::any_with_key(area, parents, key)
 }
 
@@ -93,17 +103,16 @@ pub fn is_orphan_among(
     k: usize,
     image: [i64; 9],
     parents: TableRows,
-    n: usize,
-    cs: [usize; 8],
-    ps: [usize; 8],
+    pairs: KeyPairs,
 ) -> bool
-    requires { ⌜ Ready (now schema) (now area) × (KeyColumns (now schema) k n cs ps × RowsOf (now schema) (keyOf (schemaOf (now schema)) k .parent) parents) ⌝ }
+    requires { ⌜ Ready (now schema) (now area) × (KeyColumns (now schema) k pairs × RowsOf (now schema) (keyOf (schemaOf (now schema)) k .parent) parents) ⌝ }
     ensures { λ x. ⌜ x ≡ Keys.orphan (keyOf (schemaOf (now (schema .entry))) k) (getD (workOf (schemaOf (now (schema .entry))) (now (area .entry)) .tabs) (keyOf (schemaOf (now (schema .entry))) k .parent) []) image ⌝ }
 {
-    if !rows::image_full_key(image, n, cs) {
-        return is_half_due(schema, k, image, n, cs);
+    let cs = pairs.cs;
+    if !rows::image_full_key(image, pairs.n, cs) {
+        return is_half_due(schema, k, image, pairs.n, cs);
     }
-    !is_served(schema, area, k, image, parents, n, cs, ps)
+    !is_served(schema, area, k, image, parents, pairs)
 }
 
 // The same for one image: the parent rows are read where they are needed.
@@ -112,16 +121,15 @@ pub fn is_orphan_image(
     area: &[i64],
     k: usize,
     image: [i64; 9],
-    n: usize,
-    cs: [usize; 8],
-    ps: [usize; 8],
+    pairs: KeyPairs,
 ) -> bool
-    requires { ⌜ Ready (now schema) (now area) × KeyColumns (now schema) k n cs ps ⌝ }
+    requires { ⌜ Ready (now schema) (now area) × KeyColumns (now schema) k pairs ⌝ }
     ensures { λ x. ⌜ x ≡ Keys.orphan (keyOf (schemaOf (now (schema .entry))) k) (getD (workOf (schemaOf (now (schema .entry))) (now (area .entry)) .tabs) (keyOf (schemaOf (now (schema .entry))) k .parent) []) image ⌝ }
 {
-    if !rows::image_full_key(image, n, cs) {
-        return is_half_due(schema, k, image, n, cs);
+    let cs = pairs.cs;
+    if !rows::image_full_key(image, pairs.n, cs) {
+        return is_half_due(schema, k, image, pairs.n, cs);
     }
     let parents = rows::rows_of(schema, fields::parent(schema, k));
-    !is_served(schema, area, k, image, parents, n, cs, ps)
+    !is_served(schema, area, k, image, parents, pairs)
 }

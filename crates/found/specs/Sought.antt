@@ -14,13 +14,13 @@ use Rattle.found.specs.declared.Cell.{Cell}
 use Rattle.found.specs.declared.Given.{Given}
 use Rattle.found.specs.declared.Given.the-variants.{Deleted, Set}
 
--- a row that is found
-unfoldable pub foundRow : Cell → Row → Bool
-foundRow sought = isFound (sought .column) (sought .null) (sought .value)
+-- a row that is found, in a table with these folded columns
+unfoldable pub foundRow : ℕ → Cell → Row → Bool
+foundRow folded sought = isFound folded (sought .column) (sought .null) (sought .value)
 
 -- row j of table t is one
-unfoldable pub foundAt : ℕ → Cell → Tables → ℕ → Bool
-foundAt t sought tabs j = foundRow sought (rowAt t j tabs)
+unfoldable pub foundAt : Schema → ℕ → Cell → Tables → ℕ → Bool
+foundAt s t sought tabs j = foundRow (tableOf s t .folded) sought (rowAt t j tabs)
 
 -- a row, live or not, whose column c is NULL
 unfoldable pub nullIn : ℕ → Row → Bool
@@ -38,7 +38,7 @@ setsIn columns (Set cell) = ltb (cell .column) columns
 
 -- the row changes of a statement for the rows of table t that are found
 unfoldable pub foundChanges : Schema → ℕ → Cell → Given → Work → Result
-foundChanges s t sought given = rowsFound s t (foundRow sought) (givenImage (tableOf s t .columns) given)
+foundChanges s t sought given = rowsFound s t (foundRow (tableOf s t .folded) sought) (givenImage (tableOf s t .columns) given)
 
 -- what such a statement requires: a table, its column that is searched, and the one that is set
 pub record Search (s : Schema) (t : ℕ) (sought : Cell) (given : Given) : Type 0 where

@@ -70,10 +70,10 @@ fn skip_filled(area: &[i64], table: TableRows, c: usize, from: usize) -> usize
     j
 }
 
-// Whether the row at p is found, where NULL is sought.
+// Whether the row at p is found, where NULL is sought: no column is then folded.
 fn is_found_null(area: &[i64], p: usize, w: usize, sought: Cell) -> bool
     requires { ⌜ RowAt (now area) p w × ((sought .column < 8) × (sought .null ≡ true)) ⌝ }
-    ensures { λ x. ⌜ x ≡ foundRow sought (rowIn (now (area .entry)) p w) ⌝ }
+    ensures { λ x. ⌜ x ≡ foundRow 0 sought (rowIn (now (area .entry)) p w) ⌝ }
 {
     if !is_null(area, p, w, sought.column) {
         return false;
@@ -85,7 +85,7 @@ fn is_found_null(area: &[i64], p: usize, w: usize, sought: Cell) -> bool
 // The first row from `from` on that is found, where NULL is sought; the number of rows where there is none.
 fn first_null(area: &[i64], table: TableRows, sought: Cell, from: usize) -> usize
     requires { ⌜ (Standing (now area) table × (from ≤ table .count)) × ((sought .column < 8) × (sought .null ≡ true)) ⌝ }
-    ensures { λ x. ⌜ FirstRow (foundRow sought) (now (area .entry)) table from x ⌝ }
+    ensures { λ x. ⌜ FirstRow (foundRow 0 sought) (now (area .entry)) table from x ⌝ }
 {
     let start = table.start;
     let w = table.width;
@@ -101,14 +101,17 @@ fn first_null(area: &[i64], table: TableRows, sought: Cell, from: usize) -> usiz
     rows
 }
 
-// The first row from `from` on that is found, where a value is sought; the number of rows where there is none.
-fn first_equal(area: &[i64], table: TableRows, sought: Cell, from: usize) -> usize
+// The first row from `from` on that is found, where a value is sought; the number of rows where there is none. The mask has
+// the table's folded columns.
+fn first_equal(area: &[i64], table: TableRows, mask: usize, sought: Cell, from: usize) -> usize
     requires { ⌜ (Standing (now area) table × (from ≤ table .count)) × ((suc (sought .column) < table .width) × (sought .null ≡ false)) ⌝ }
-    ensures { λ x. ⌜ FirstRow (foundRow sought) (now (area .entry)) table from x ⌝ }
+    ensures { λ x. ⌜ FirstRow (foundRow mask sought) (now (area .entry)) table from x ⌝ }
 {
+    let c = sought.column;
     let key = SoughtKey {
         n: 1,
-        cs: [sought.column, 0, 0, 0, 0, 0, 0, 0],
+        folded: rows::bit_number(c, mask),
+        cs: [c, 0, 0, 0, 0, 0, 0, 0],
         vs: [sought.value, 0, 0, 0, 0, 0, 0, 0],
     };
     scans::first_with_key(area, table, key, from)
@@ -117,13 +120,13 @@ fn first_equal(area: &[i64], table: TableRows, sought: Cell, from: usize) -> usi
 // The next row of table t, from row `from` on, that is found; the number of rows where there is none.
 pub fn next_found(schema: &[u8], area: &[i64], t: usize, sought: Cell, from: usize) -> usize
     requires { ⌜ (Ready (now schema) (now area) × (t < length (schemaOf (now schema) .tables))) × ((sought .column < tableOf (schemaOf (now schema)) t .columns) × (from ≤ tableOf (schemaOf (now schema)) t .rows)) ⌝ }
-    ensures { λ x. ⌜ FirstFrom (foundAt t sought (workOf (schemaOf (now (schema .entry))) (now (area .entry)) .tabs)) (tableOf (schemaOf (now (schema .entry))) t .rows) from x ⌝ }
+    ensures { λ x. ⌜ FirstFrom (foundAt (schemaOf (now (schema .entry))) t sought (workOf (schemaOf (now (schema .entry))) (now (area .entry)) .tabs)) (tableOf (schemaOf (now (schema .entry))) t .rows) from x ⌝ }
 {
     let table = rows::rows_of(schema, t);
     if sought.null {
         return first_null(area, table, sought, from);
     }
-    first_equal(area, table, sought, from)
+    first_equal(area, table, fields::folded(schema, t), sought, from)
 }
 
 // ---- the image that it is given

@@ -13,7 +13,7 @@ ghost use Rattle.rules.specs.Values.{natOf};
 ghost use Rattle.rules.specs.Rows;
 ghost use Rattle.rules.specs.Change;
 ghost use Rattle.rules.specs.Found;
-ghost use Rattle.rows.specs.KeyColumns.{KeyColumns};
+ghost use Rattle.rows.specs.KeyColumns.{PairColumns};
 use schema::Action;
 use schema::SchemaAnswer;
 
@@ -183,7 +183,7 @@ pub fn child_image(
     new: [i64; 9],
     image: [i64; 9],
 ) -> [i64; 9]
-    requires { ⌜ KeyColumns (now schema) k n cs ps × (t ≡ keyOf (schemaOf (now schema)) k .child) ⌝ }
+    requires { ⌜ PairColumns (now schema) k n cs ps × (t ≡ keyOf (schemaOf (now schema)) k .child) ⌝ }
     ensures { λ x. ⌜ x ≡ Change.childImage action (schemaOf (now (schema .entry))) (keyOf (schemaOf (now (schema .entry))) k) new image ⌝ }
 {
     let x = refilled(schema, t, action, new, n, cs, ps, image);

@@ -13,7 +13,7 @@ use Rattle.orphans.specs.declared.KeyRows.{KeyRows}
 
 -- those of foreign key k, which is not broken
 pub record KeyRowsOf (b : List ℕ) (k : ℕ) (x : KeyRows) : Type 0 where
-  pub columns : KeyColumns b k (x .n) (x .cs) (x .ps)
+  pub columns : KeyColumns b k (x .pairs)
   pub children : RowsOf b (keyOf (schemaOf b) k .child) (x .children)
   pub parents : RowsOf b (keyOf (schemaOf b) k .parent) (x .parents)
 

@@ -12,16 +12,15 @@ ghost use Rattle.rules.specs.Keys;
 ghost use Rattle.bridge.specs.Fit.{workOf};
 ghost use Rattle.bridge.specs.Ready.{Ready};
 ghost use Rattle.orphans.specs.KeyRows.{KeyRowsOf, Searched};
+use rows::KeyPairs;
 use rows::TableRows;
 use schema::SchemaAnswer;
 
-// The child rows of a foreign key, its parent rows, the n columns of its child key and those of its parent key.
+// The child rows of a foreign key, its parent rows and its column pairs.
 pub struct KeyRows {
     pub children: TableRows,
     pub parents: TableRows,
-    pub n: usize,
-    pub cs: [usize; 8],
-    pub ps: [usize; 8],
+    pub pairs: KeyPairs,
 }
 
 // No rows and no columns.
@@ -34,12 +33,16 @@ pub fn no_rows() -> KeyRows
         count: 0,
     };
     let columns = [0usize; 8];
+    let pairs = KeyPairs {
+        n: 0,
+        folded: 0,
+        cs: columns,
+        ps: columns,
+    };
     KeyRows {
         children: none,
         parents: none,
-        n: 0,
-        cs: columns,
-        ps: columns,
+        pairs: pairs,
     }
 }
 
@@ -50,15 +53,11 @@ fn key_rows(schema: &[u8], k: usize) -> KeyRows
 {
     let children = rows::rows_of(schema, fields::child(schema, k));
     let parents = rows::rows_of(schema, fields::parent(schema, k));
-    let n = fields::width(schema, k);
-    let cs = fields::child_columns(schema, k);
-    let ps = fields::parent_columns(schema, k);
+    let pairs = rows::key_pairs(schema, k);
     KeyRows {
         children: children,
         parents: parents,
-        n: n,
-        cs: cs,
-        ps: ps,
+        pairs: pairs,
     }
 }
 
@@ -82,9 +81,8 @@ pub fn is_orphan(schema: &[u8], area: &[i64], k: usize, key: KeyRows, j: usize) 
     let w = children.width;
     let image = words::image_at(area, children.start + j * w, w);
     let parents = key.parents;
-    let cs = key.cs;
-    let ps = key.ps;
-    constraints::is_orphan_among(schema, area, k, image, parents, key.n, cs, ps)
+    let pairs = key.pairs;
+    constraints::is_orphan_among(schema, area, k, image, parents, pairs)
 }
 
 // The orphans of foreign key k, counted from the rows.

@@ -6,29 +6,29 @@ use mathlib.Core.List.{List, []}
 use Prim.Native.Nat.{ℕ, _≤_, _<_}
 use native.Mathlib.Omega.{arith}
 use borrow.Author.Tests.{eq-eqb, ne-eqb}
-use lib.Dec.{eqb, eqb→eq}
+use lib.Dec.{eqb}
 use lib.IntN.{ℤ}
 use lib.ListN.{length, getD, take}
 use Rattle.schema.specs.Records.{ForeignKey, keyOf}
 use Rattle.schema.specs.Fields.{schemaOf}
 use Rattle.schema.proofs.RangeLaws.{and-left, and-right}
-use Rattle.schema.proofs.FieldLaws.{same-width}
 use Rattle.rules.specs.Lists.{any, count, one}
 use Rattle.rules.specs.Rows.{Row, Tables, live}
 use Rattle.rules.specs.Keys.{sameKey, fullKey, mapsTo, orphan, takes, sameParentKey, fires}
 use Rattle.bridge.specs.Fit.{workOf}
 use Rattle.bridge.specs.Ready.{Placed}
-use Rattle.bridge.proofs.Tests.{holds}
+use Rattle.bridge.proofs.NullKeys.{vacant-orphan}
 use Rattle.rows.specs.declared.TableRows.{TableRows}
 use Rattle.rows.specs.Standing.{Standing, RowsOf, rowsIn}
-use Rattle.rows.specs.KeyColumns.{KeyColumns}
+use Rattle.rows.specs.declared.KeyPairs.{KeyPairs}
+use Rattle.rows.specs.KeyColumns.{foldsIn, KeyColumns}
 use Rattle.rows.proofs.TableLaws.{child-table, parent-in, standing, rows-are}
 use Rattle.rows.specs.declared.SoughtKey.{SoughtKey}
 use Rattle.rows.specs.Sought.{hasSought, SoughtIn, withKey, SoughtOf}
 use Rattle.rows.proofs.SoughtLaws.{sought-ready, any-sought, count-sought}
 use Rattle.constraints.proofs.ServedLaws.{some-columns}
 use Rattle.moves.specs.Movement.{pick, except, exceptIf, ownOrphan, strandedRows}
-use Rattle.moves.proofs.Taken.{stranded-rows}
+use Rattle.moves.proofs.Taken.{stranded-rows, pick-zero}
 use Rattle.row_orphans.specs.RowOrphans.{takenRows, hasTwin}
 
 -- ---- the row itself
@@ -36,6 +36,10 @@ module _ (k : ForeignKey) (t : ℕ) (x : Row) (tabs : Tables) where
   pub own-other : (k .child ≡ t → ⊥) → 0 ≡ ownOrphan k t x tabs
   unfolding ownOrphan pick
   own-other h = sym (rw (ne-eqb (k .child) t h))
+
+  pub own-vacant : live x ≡ false → 0 ≡ ownOrphan k t x tabs
+  unfolding ownOrphan one
+  own-vacant h = sym (ap (λ (b : Bool). pick (eqb (k .child) t) (one b)) (vacant-orphan k (getD tabs (k .parent) []) x h) ∙ pick-zero (eqb (k .child) t))
 
   pub own-is : k .child ≡ t → {b : Bool} → orphan k (getD tabs (k .parent) []) x ≡ b → one b ≡ ownOrphan k t x tabs
   unfolding ownOrphan pick
@@ -47,17 +51,17 @@ module _ (k : ForeignKey) (same : length (k .parentColumns) ≡ length (k .child
   unfolding hasTwin takenRows
   by-tests = stranded-rows k t r x y tabs (sym same)
 
+  pub none-other : (k .parent ≡ t → ⊥) → 0 ≡ strandedRows k t r x y tabs
+  unfolding strandedRows pick
+  none-other h = sym (rw (ne-eqb (k .parent) t h))
+
   pub none-fires : fires y t x k ≡ false → 0 ≡ strandedRows k t r x y tabs
   unfolding pick
   none-fires h = sym (by-tests ∙ ap (λ b. pick (b && not (hasTwin k r x tabs)) (takenRows k t r x tabs)) h)
 
   pub none-taken : takenRows k t r x tabs ≡ 0 → 0 ≡ strandedRows k t r x y tabs
   unfolding pick
-  none-taken h = sym (by-tests ∙ ap (pick (fires y t x k && not (hasTwin k r x tabs))) h ∙ pick-none (fires y t x k && not (hasTwin k r x tabs)))
-    where
-      pick-none : (b : Bool) → pick b 0 ≡ 0
-      pick-none true = refl
-      pick-none false = refl
+  none-taken h = sym (by-tests ∙ ap (pick (fires y t x k && not (hasTwin k r x tabs))) h ∙ pick-zero (fires y t x k && not (hasTwin k r x tabs)))
 
   pub twin-serves : hasTwin k r x tabs ≡ true → 0 ≡ strandedRows k t r x y tabs
   unfolding pick
@@ -71,44 +75,43 @@ module _ (k : ForeignKey) (same : length (k .parentColumns) ≡ length (k .child
   unfolding pick
   all-stranded h e = sym (by-tests ∙ ap₂ (λ a b. pick (a && not b) (takenRows k t r x tabs)) h e)
 
-pub fires-parent : (k : ForeignKey) (t : ℕ) (x y : Row) → fires y t x k ≡ true → k .parent ≡ t
-unfolding fires
-fires-parent k t x y h = eqb→eq (k .parent) t (holds (and-left (eqb (k .parent) t) _ h))
-
--- the old key then has no NULL
+-- an old key that actions follow has no NULL
 pub fires-full : (k : ForeignKey) (t : ℕ) (x y : Row) {ps : List ℕ} → ps ≡ k .parentColumns → fires y t x k ≡ true → fullKey ps x ≡ true
 unfolding fires
 fires-full k t x y e h = rw e (and-left (fullKey (k .parentColumns) x) _ (and-right (not (k .broken)) _ (and-right (eqb (k .parent) t) _ h)))
 
 -- ---- the scans
-module _ (b : List ℕ) (a : List ℤ) (k t r n : ℕ) (cs ps : List ℕ) (h : Placed b a t r) (c : KeyColumns b k n cs ps) where
+module _ (b : List ℕ) (a : List ℤ) (k t r : ℕ) (pairs : KeyPairs) (h : Placed b a t r) (c : KeyColumns b k pairs) where
   abbrev K : ForeignKey
   K = keyOf (schemaOf b) k
 
   abbrev tabs : Tables
   tabs = workOf (schemaOf b) a .tabs
 
-  pub same-columns : length (keyOf (schemaOf b) k .parentColumns) ≡ length (keyOf (schemaOf b) k .childColumns)
-  same-columns = same-width b (c .accepted) k (c .key)
+  abbrev TakenBy : Row → SoughtKey → Type 0
+  TakenBy x key = SoughtOf (pairs .folded) (pairs .n) (pairs .cs) (pairs .ps) x key
 
-  takes-with : (x : Row) → withKey (take n cs) (take n ps) x ≡ takes (keyOf (schemaOf b) k) x
+  abbrev TwinOf : Row → SoughtKey → Type 0
+  TwinOf x key = SoughtOf (pairs .folded) (pairs .n) (pairs .ps) (pairs .ps) x key
+
+  takes-with : (x : Row) → withKey (foldsIn (pairs .n) (pairs .folded)) (take (pairs .n) (pairs .cs)) (take (pairs .n) (pairs .ps)) x ≡ takes (keyOf (schemaOf b) k) x
   unfolding withKey takes mapsTo
-  takes-with x = λ i row. live row && sameKey (c .child-is i) (c .parent-is i) row x
+  takes-with x = λ i row. live row && sameKey (c .folds-are i) (c .columns .child-is i) (c .columns .parent-is i) row x
 
-  twin-with : (x : Row) → withKey (take n ps) (take n ps) x ≡ sameParentKey (keyOf (schemaOf b) k) x
+  twin-with : (x : Row) → withKey (foldsIn (pairs .n) (pairs .folded)) (take (pairs .n) (pairs .ps)) (take (pairs .n) (pairs .ps)) x ≡ sameParentKey (keyOf (schemaOf b) k) x
   unfolding withKey sameParentKey
-  twin-with x = λ i row. live row && sameKey (c .parent-is i) (c .parent-is i) row x
+  twin-with x = λ i row. live row && sameKey (c .folds-are i) (c .columns .parent-is i) (c .columns .parent-is i) row x
 
   -- the child rows
   module _ {p : ℕ} (e : p ≡ keyOf (schemaOf b) k .child) (rows : TableRows) (o : RowsOf b p rows) where
     child-there : p < length (schemaOf b .tables)
-    child-there = rw e (child-table b (c .accepted) k (c .key))
+    child-there = rw e (child-table b (c .columns .accepted) k (c .columns .key))
 
     pub children-stand : Standing a rows
     children-stand = standing b a (h .ready) p child-there rows o
 
-    pub children-sought : {x : Row} {key : SoughtKey} → SoughtOf n cs ps x key → (1 ≤ key .n) × SoughtIn (rows .width) key
-    children-sought s = sought-ready s (some-columns b k n cs ps c) (rw (o .width-is, e) (c .child-within))
+    pub children-sought : {x : Row} {key : SoughtKey} → TakenBy x key → (1 ≤ key .n) × SoughtIn (rows .width) key
+    children-sought s = sought-ready s (some-columns b k (pairs .n) (pairs .cs) (pairs .ps) (c .columns)) (rw (o .width-is, e) (c .columns .child-within))
 
     pub children-few : {m : ℕ} → m ≤ rows .count → m ≤ 1024
     children-few l = omega (arith, l, children-stand .few)
@@ -119,11 +122,11 @@ module _ (b : List ℕ) (a : List ℤ) (k t r n : ℕ) (cs ps : List ℕ) (h : P
     pub row-below : p ≡ t → r < rows .count
     row-below f = rw (o .count-is, f) (h .row)
 
-    pub taken-others : p ≡ t → (x : Row) {key : SoughtKey} → SoughtOf n cs ps x key → count (hasSought key) (except r (rowsIn a rows)) ≡ takenRows (keyOf (schemaOf b) k) t r x (workOf (schemaOf b) a .tabs)
+    pub taken-others : p ≡ t → (x : Row) {key : SoughtKey} → TakenBy x key → count (hasSought key) (except r (rowsIn a rows)) ≡ takenRows (keyOf (schemaOf b) k) t r x (workOf (schemaOf b) a .tabs)
     unfolding takenRows exceptIf
     taken-others f x s = rw (eq-eqb (K .child) t (sym e ∙ f)) (count-sought s (except r (rowsIn a rows)) ∙ ap₂ (λ q l. count q (except r l)) (takes-with x) children-are)
 
-    pub taken-all : (p ≡ t → ⊥) → (x : Row) {key : SoughtKey} → SoughtOf n cs ps x key → count (hasSought key) (rowsIn a rows) ≡ takenRows (keyOf (schemaOf b) k) t r x (workOf (schemaOf b) a .tabs)
+    pub taken-all : (p ≡ t → ⊥) → (x : Row) {key : SoughtKey} → TakenBy x key → count (hasSought key) (rowsIn a rows) ≡ takenRows (keyOf (schemaOf b) k) t r x (workOf (schemaOf b) a .tabs)
     unfolding takenRows exceptIf
     taken-all f x s = rw (ne-eqb (K .child) t (λ q. f (e ∙ q))) (count-sought s (rowsIn a rows) ∙ ap₂ (λ q l. count q l) (takes-with x) children-are)
 
@@ -132,10 +135,10 @@ module _ (b : List ℕ) (a : List ℤ) (k t r n : ℕ) (cs ps : List ℕ) (h : P
     pub parents-stand : Standing a rows × (r < rows .count)
     parents-stand = (standing b a (h .ready) t (h .table) rows o, rw (o .count-is) (h .row))
 
-    pub parents-sought : {x : Row} {key : SoughtKey} → SoughtOf n ps ps x key → (1 ≤ key .n) × SoughtIn (rows .width) key
-    parents-sought s = sought-ready s (some-columns b k n cs ps c) (parent-in b k n cs ps c (sym e) o)
+    pub parents-sought : {x : Row} {key : SoughtKey} → TwinOf x key → (1 ≤ key .n) × SoughtIn (rows .width) key
+    parents-sought s = sought-ready s (some-columns b k (pairs .n) (pairs .cs) (pairs .ps) (c .columns)) (parent-in b k (pairs .n) (pairs .cs) (pairs .ps) (c .columns) (sym e) o)
 
-    pub twin-is : (x : Row) {key : SoughtKey} → SoughtOf n ps ps x key → any (hasSought key) (except r (rowsIn a rows)) ≡ hasTwin (keyOf (schemaOf b) k) r x (workOf (schemaOf b) a .tabs)
+    pub twin-is : (x : Row) {key : SoughtKey} → TwinOf x key → any (hasSought key) (except r (rowsIn a rows)) ≡ hasTwin (keyOf (schemaOf b) k) r x (workOf (schemaOf b) a .tabs)
     unfolding hasTwin
     twin-is x s =
         any-sought s (except r (rowsIn a rows)) ∙ ap₂ (λ q l. any q (except r l)) (twin-with x) (rows-are b a (h .ready) t (h .table) rows o ∙ ap (λ q. getD tabs q []) (sym e))

@@ -1,6 +1,6 @@
 // The orphans that a row makes by having one image and not another.
 ghost use mathlib.Core.Path.{_≡_};
-ghost use mathlib.Core.Bool.{true};
+ghost use mathlib.Core.Bool.{true, false};
 ghost use Prim.Native.Nat.{_≤_, _<_};
 ghost use lib.ListN.{length, take};
 ghost use Rattle.schema.specs.Records.{keyOf};
@@ -12,25 +12,21 @@ ghost use Rattle.moves.specs.Movement.{ownOrphan, strandedRows};
 ghost use Rattle.rows.specs.KeyColumns.{KeyColumns};
 ghost use Rattle.table_keys.specs.Touched.{WholeKeys};
 ghost use Rattle.row_orphans.specs.RowOrphans;
+use rows::KeyPairs;
 
 // 1 where table t is the child of foreign key k and a row of it with an image is an orphan, else 0.
-fn own_orphan(
-    schema: &[u8],
-    area: &[i64],
-    k: usize,
-    t: usize,
-    image: [i64; 9],
-    n: usize,
-    cs: [usize; 8],
-    ps: [usize; 8],
-) -> usize
-    requires { ⌜ Ready (now schema) (now area) × KeyColumns (now schema) k n cs ps ⌝ }
+fn own_orphan(schema: &[u8], area: &[i64], k: usize, t: usize, image: [i64; 9]) -> usize
+    requires { ⌜ Ready (now schema) (now area) × ((k < length (schemaOf (now schema) .keys)) × (keyOf (schemaOf (now schema)) k .broken ≡ false)) ⌝ }
     ensures { λ x. ⌜ (x ≡ ownOrphan (keyOf (schemaOf (now (schema .entry))) k) t image (workOf (schemaOf (now (schema .entry))) (now (area .entry)) .tabs)) × (x ≤ 1) ⌝ }
 {
     if fields::child(schema, k) != t {
         return 0;
     }
-    if constraints::is_orphan_image(schema, area, k, image, n, cs, ps) {
+    if !rows::image_live(image) {
+        return 0;
+    }
+    let pairs = rows::key_pairs(schema, k);
+    if constraints::is_orphan_image(schema, area, k, image, pairs) {
         return 1;
     }
     0
@@ -44,16 +40,16 @@ fn taken_rows(
     t: usize,
     r: usize,
     image: [i64; 9],
-    n: usize,
-    cs: [usize; 8],
-    ps: [usize; 8],
+    pairs: KeyPairs,
 ) -> usize
-    requires { ⌜ (Placed (now schema) (now area) t r × KeyColumns (now schema) k n cs ps) × (fullKey (take n ps) image ≡ true) ⌝ }
+    requires { ⌜ (Placed (now schema) (now area) t r × KeyColumns (now schema) k pairs) × (fullKey (take (pairs .n) (pairs .ps)) image ≡ true) ⌝ }
     ensures { λ x. ⌜ (x ≡ RowOrphans.takenRows (keyOf (schemaOf (now (schema .entry))) k) t r image (workOf (schemaOf (now (schema .entry))) (now (area .entry)) .tabs)) × (x ≤ 1024) ⌝ }
 {
     let child = fields::child(schema, k);
     let children = rows::rows_of(schema, child);
-    let key = rows::sought_key(image, n, cs, ps);
+    let cs = pairs.cs;
+    let ps = pairs.ps;
+    let key = rows::sought_key(image, pairs.folded, pairs.n, cs, ps);
     if child == t {
         return scans::count_others_with_key(area, children, r, key);
     }
@@ -68,15 +64,14 @@ fn has_twin(
     t: usize,
     r: usize,
     image: [i64; 9],
-    n: usize,
-    cs: [usize; 8],
-    ps: [usize; 8],
+    pairs: KeyPairs,
 ) -> bool
-    requires { ⌜ (Placed (now schema) (now area) t r × KeyColumns (now schema) k n cs ps) × ((keyOf (schemaOf (now schema)) k .parent ≡ t) × (fullKey (take n ps) image ≡ true)) ⌝ }
+    requires { ⌜ (Placed (now schema) (now area) t r × KeyColumns (now schema) k pairs) × ((keyOf (schemaOf (now schema)) k .parent ≡ t) × (fullKey (take (pairs .n) (pairs .ps)) image ≡ true)) ⌝ }
     ensures { λ x. ⌜ x ≡ RowOrphans.hasTwin (keyOf (schemaOf (now (schema .entry))) k) r image (workOf (schemaOf (now (schema .entry))) (now (area .entry)) .tabs) ⌝ }
 {
     let parents = rows::rows_of(schema, t);
-    let key = rows::sought_key(image, n, ps, ps);
+    let ps = pairs.ps;
+    let key = rows::sought_key(image, pairs.folded, pairs.n, ps, ps);
     scans::other_with_key(area, parents, r, key)
 }
 
@@ -89,21 +84,22 @@ fn stranded_rows(
     r: usize,
     x: [i64; 9],
     y: [i64; 9],
-    n: usize,
-    cs: [usize; 8],
-    ps: [usize; 8],
 ) -> usize
-    requires { ⌜ Placed (now schema) (now area) t r × KeyColumns (now schema) k n cs ps ⌝ }
+    requires { ⌜ Placed (now schema) (now area) t r × ((k < length (schemaOf (now schema) .keys)) × (keyOf (schemaOf (now schema)) k .broken ≡ false)) ⌝ }
     ensures { λ z. ⌜ (z ≡ strandedRows (keyOf (schemaOf (now (schema .entry))) k) t r x y (workOf (schemaOf (now (schema .entry))) (now (area .entry)) .tabs)) × (z ≤ 1024) ⌝ }
 {
+    if fields::parent(schema, k) != t {
+        return 0;
+    }
     if !rows::fires(schema, t, x, y, k) {
         return 0;
     }
-    let m = taken_rows(schema, area, k, t, r, x, n, cs, ps);
+    let pairs = rows::key_pairs(schema, k);
+    let m = taken_rows(schema, area, k, t, r, x, pairs);
     if m == 0 {
         return 0;
     }
-    if has_twin(schema, area, k, t, r, x, n, cs, ps) {
+    if has_twin(schema, area, k, t, r, x, pairs) {
         return 0;
     }
     m
@@ -127,11 +123,8 @@ fn key_orphans(
     if !numbers::bit_of(k, whole) {
         return 0;
     }
-    let n = fields::width(schema, k);
-    let cs = fields::child_columns(schema, k);
-    let ps = fields::parent_columns(schema, k);
-    let own = own_orphan(schema, area, k, t, x, n, cs, ps);
-    stranded_rows(schema, area, k, t, r, y, x, n, cs, ps) + own
+    let own = own_orphan(schema, area, k, t, x);
+    stranded_rows(schema, area, k, t, r, y, x) + own
 }
 
 // The same for each foreign key.

@@ -11,7 +11,7 @@ use borrow.Author.Tests.{le-leb, lt-leb}
 use lib.Dec.{ltb}
 use lib.IntN.{ℤ}
 use lib.ListN.{length, getD, take, drop, length-take, drop-of-length-le}
-use lib.Seq.{getD-take, getD-drop, drop-cons, length-take-le, take-all}
+use lib.Seq.{getD-take, getD-drop, drop-cons, length-take-le}
 use Rattle.schema.specs.Bounds.{Columns}
 use Rattle.schema.specs.Bytes.{bit}
 use Rattle.schema.specs.Ranges.{all}
@@ -19,12 +19,11 @@ use Rattle.schema.specs.Records.{Table}
 use Rattle.rules.specs.Lists.{𝟘, any, count, upFrom}
 use Rattle.rules.specs.Values.{natOf}
 use Rattle.rules.specs.Rows.{Row, liveState, live, nullAt, valueAt}
-use Rattle.rules.specs.Keys.{sameKey, fullKey, halfKey}
+use Rattle.rules.specs.Keys.{fullKey, halfKey}
 use Rattle.rules.specs.Change.{notNullBroken}
 use Rattle.bridge.specs.Ready.{rowIn}
 use Rattle.bridge.proofs.Tests.{and-same}
 use Rattle.bridge.proofs.CountLaws.{count-some, count-not-all}
-use Rattle.bridge.proofs.NullKeys.{no-null}
 
 pub live-below : (n : ℕ) → n < 256 → false ≡ liveState n
 unfolding liveState
@@ -60,10 +59,6 @@ pub live-in : (a : List ℤ) (p w : ℕ) → 0 < w → liveState (natOf (getD a 
 unfolding live
 live-in a p w h = ap (λ (z : ℤ). liveState (natOf z)) (sym (state-in a p w h))
 
-pub whole-row : (x : Row) → length x ≡ 9 → rowIn (take 9 x) 0 9 ≡ x
-unfolding rowIn
-whole-row x h = ap (take 9) (take-all 9 x (omega arith)) ∙ take-all 9 x (omega arith)
-
 -- ---- the first n of an array, from number i on
 pub part-step : {A : Type 0} (d : A) (n : ℕ) (xs : List A) (i : ℕ) → i < n → n ≤ length xs → drop i (take n xs) ≡ getD xs i d ∷ drop (i + 1) (take n xs)
 part-step {A} d n xs i h l =
@@ -86,7 +81,7 @@ module _ (x : Row) {s : ℕ} (e : s ≡ natOf (getD x 0 𝟘)) (cs : List ℕ) w
   unfolding fullKey nullAt
   full-live f =
       let q : live x ≡ true = sym (live-is x e) ∙ f in
-      ap (λ (z : ℕ). not (any (λ c. bit c z) cs)) e ∙ sym (no-null x cs) ∙ sym (ap (λ (b : Bool). b && sameKey cs cs x x) q)
+      ap (λ (z : ℕ). not (any (λ c. bit c z) cs)) e ∙ sym (ap (λ (b : Bool). b && not (any (nullAt x) cs)) q)
 
   pub half-vacant : liveState s ≡ false → false ≡ halfKey cs x
   unfolding halfKey

@@ -1,5 +1,6 @@
 pub mod CellLaws
 pub mod SoughtLaws
+pub mod FoldLaws
 pub mod MaskLaws
 pub mod TableLaws
 pub mod ActionLaws

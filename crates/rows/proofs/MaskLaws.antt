@@ -14,7 +14,7 @@ use lib.Pow.{pow-pos, pow-mono}
 use lib.Seq.{take-suc-set, take-set-le, getD-take, length-take-le}
 use Rattle.schema.specs.declared.SchemaAnswer.the-variants.{Accepted}
 use Rattle.schema.specs.Bounds.{Columns}
-use Rattle.schema.specs.Bytes.{bit}
+use Rattle.schema.specs.Bytes.{bit, foldsOf}
 use Rattle.schema.specs.Records.{Table, tableOf}
 use Rattle.schema.specs.Fields
 use Rattle.schema.specs.Fields.{tableFrom, schemaOf}
@@ -27,8 +27,8 @@ use Rattle.schema.proofs.FieldLaws.{read-unique}
 use Rattle.rules.specs.Lists.{any, one}
 use Rattle.rules.specs.Rows.{Row}
 use Rattle.rules.specs.Keys.{fullKey, maskColumnsFrom, maskColumns}
-use Rattle.rules.specs.Change.{twice, uniqueBroken}
-use Rattle.rows.specs.KeyColumns.{MaskWithin, maskBroken}
+use Rattle.rules.specs.Change.{twice, maskBroken, uniqueBroken}
+use Rattle.rows.specs.KeyColumns.{MaskWithin}
 
 -- ---- column by column
 abbrev consIf : Bool → ℕ → List ℕ → List ℕ
@@ -148,19 +148,19 @@ module _ (m : ℕ) {n : ℕ} (cs : List ℕ) (k : n ≡ length (maskColumns m)) 
             omega arith;
       }
 
-  module _ (r : ℕ) (new : Row) (rows : List Row) (e : m ≡ 0 → ⊥) where
-    pub mask-null : fullKey (take n cs) new ≡ false → false ≡ maskBroken r new rows m
+  module _ (folded r : ℕ) (new : Row) (rows : List Row) (e : m ≡ 0 → ⊥) where
+    pub mask-null : fullKey (take n cs) new ≡ false → false ≡ maskBroken folded r new rows m
     unfolding maskBroken
     mask-null h = let q : fullKey (maskColumns m) new ≡ false = rw list-is at h in rw (ne-eqb m 0 e, q)
 
-    pub mask-full : fullKey (take n cs) new ≡ true → twice (take n cs) r new 0 rows ≡ maskBroken r new rows m
+    pub mask-full : fullKey (take n cs) new ≡ true → {fs : List Bool} → fs ≡ foldsOf folded (take n cs) → twice fs (take n cs) r new 0 rows ≡ maskBroken folded r new rows m
     unfolding maskBroken
-    mask-full h = let q : fullKey (maskColumns m) new ≡ true = rw list-is at h in rw (ne-eqb m 0 e, q, list-is)
+    mask-full h f = let q : fullKey (maskColumns m) new ≡ true = rw list-is at h in rw (f, ne-eqb m 0 e, q, list-is)
 
-pub mask-none : (r : ℕ) (new : Row) (rows : List Row) (m : ℕ) → m ≡ 0 → false ≡ maskBroken r new rows m
+pub mask-none : (folded r : ℕ) (new : Row) (rows : List Row) (m : ℕ) → m ≡ 0 → false ≡ maskBroken folded r new rows m
 unfolding maskBroken
-mask-none r new rows m e = rw e
+mask-none folded r new rows m e = rw e
 
-pub unique-masks : (t : Table) (r : ℕ) (new : Row) (rows : List Row) → uniqueBroken t r new rows ≡ any (maskBroken r new rows) (drop 0 (t .uniques))
-unfolding uniqueBroken maskBroken
+pub unique-masks : (t : Table) (r : ℕ) (new : Row) (rows : List Row) → uniqueBroken t r new rows ≡ any (maskBroken (t .folded) r new rows) (drop 0 (t .uniques))
+unfolding uniqueBroken
 unique-masks t r new rows = refl

@@ -10,13 +10,14 @@ use lib.ListN.{length, getD, take, drop}
 use lib.Seq.{ext-getD}
 use Rattle.schema.specs.declared.SchemaAnswer.the-variants.{Accepted}
 use Rattle.schema.specs.Bounds.{Columns}
+use Rattle.schema.specs.Bytes.{foldsOf}
 use Rattle.schema.specs.Records.{tableOf, keyOf}
 use Rattle.schema.specs.Fields.{schemaOf}
 use Rattle.schema.specs.Check.{checkSchema}
 use Rattle.schema.specs.Sizes.{tableSize, rowsSize, tableOffset, areaSize}
 use Rattle.schema.proofs.ListLaws.{length-from, get-list}
 use Rattle.schema.proofs.KeyLaws.{parent-key}
-use Rattle.schema.proofs.FieldLaws.{read-rows, read-columns, read-child}
+use Rattle.schema.proofs.FieldLaws.{read-rows, read-columns, read-child, folds-are}
 use Rattle.rules.specs.Rows.{rowAt}
 use Rattle.bridge.specs.Fit.{workOf}
 use Rattle.bridge.specs.Ready.{Ready, rowIn}
@@ -24,7 +25,7 @@ use Rattle.bridge.proofs.Offsets.{rowOffset}
 use Rattle.bridge.proofs.RowWords.{row-fits, table-fits, offset-fits, row-words, formed-fit, rows-length}
 use Rattle.rows.specs.declared.TableRows.{TableRows}
 use Rattle.rows.specs.Standing.{RowAt, Standing, rowsIn, RowsOf, PlacedAt}
-use Rattle.rows.specs.KeyColumns.{KeyColumns}
+use Rattle.rows.specs.KeyColumns.{foldsIn, ParentColumns, PairColumns, KeyColumns}
 use Rattle.rows.proofs.CellLaws.{widen}
 
 -- ---- rows that stand in an area
@@ -133,19 +134,35 @@ module _ (b : List ℕ) (acc : checkSchema b ≡ Accepted) (k : ℕ) (h : k < le
     pub parent-nine : Columns 9 n ps
     parent-nine = widen (omega (arith, columns-few b acc (keyOf (schemaOf b) k .parent) (parent-table b acc k h u))) (read g .1)
 
-    pub key-columns : (cs : List ℕ) → Read (tableOf (schemaOf b) (keyOf (schemaOf b) k .child) .columns) (length (keyOf (schemaOf b) k .childColumns)) (keyOf (schemaOf b) k .childColumns) cs → KeyColumns b k n cs ps
-    key-columns cs f =
+    pub parent-columns : ParentColumns b k n ps
+    parent-columns = record { accepted = acc; key = h; whole = u; parent-is = parent-read; parent-within = read g .1 }
+
+    pub key-columns : (cs : List ℕ) → Read (tableOf (schemaOf b) (keyOf (schemaOf b) k .child) .columns) (length (keyOf (schemaOf b) k .childColumns)) (keyOf (schemaOf b) k .childColumns) cs → {f : ℕ} → foldsIn n f ≡ keyOf (schemaOf b) k .folds
+        → KeyColumns b k (record { n = n; folded = f; cs = cs; ps = ps })
+    key-columns cs r f =
         record {
-          accepted = acc;
-          key = h;
-          whole = u;
-          child-is = read f .0;
-          parent-is = parent-read;
-          child-within = read f .1;
-          parent-within = read g .1;
+          columns =
+              record {
+                accepted = acc;
+                key = h;
+                whole = u;
+                child-is = read r .0;
+                parent-is = parent-read;
+                child-within = read r .1;
+                parent-within = read g .1;
+              };
+          folds-are = f;
         }
 
-module _ (b : List ℕ) (k n : ℕ) (cs ps : List ℕ) (h : KeyColumns b k n cs ps) where
+pub parent-nine-of : (b : List ℕ) (k n : ℕ) (ps : List ℕ) → ParentColumns b k n ps → Columns 9 n ps
+parent-nine-of b k n ps h = widen (omega (arith, columns-few b (h .accepted) (keyOf (schemaOf b) k .parent) (parent-table b (h .accepted) k (h .key) (h .whole)))) (h .parent-within)
+
+-- which pairs are folded, by the mask of the parent table
+pub parent-folds : (b : List ℕ) (k n : ℕ) (ps : List ℕ) → ParentColumns b k n ps → {t m : ℕ} → t ≡ keyOf (schemaOf b) k .parent → m ≡ tableOf (schemaOf b) t .folded → foldsOf m (take n ps) ≡ keyOf (schemaOf b) k .folds
+parent-folds b k n ps h e f =
+    ap₂ foldsOf (f ∙ ap (λ (t : ℕ). tableOf (schemaOf b) t .folded) e) (h .parent-is) ∙ sym (folds-are b (h .accepted) k (h .key) (h .whole))
+
+module _ (b : List ℕ) (k n : ℕ) (cs ps : List ℕ) (h : PairColumns b k n cs ps) where
   pub child-wide : Columns 9 n cs
   child-wide = widen (omega (arith, columns-few b (h .accepted) (keyOf (schemaOf b) k .child) (child-table b (h .accepted) k (h .key)))) (h .child-within)
 

@@ -1,18 +1,30 @@
 -- A key that rows are searched for, as plain values.
 -- Assumes nothing.
 use mathlib.Core.Path.{_≡_}
-use mathlib.Core.Bool.{Bool, _&&_}
+use mathlib.Core.Bool.{Bool, false, _&&_}
 use mathlib.Core.List.{List}
-use Prim.Native.Nat.{ℕ}
+use Prim.Native.Nat.{ℕ, _<_}
 use lib.IntN.{ℤ}
-use lib.ListN.{length, take}
+use lib.ListN.{length, getD, take}
 use Rattle.schema.specs.Bounds.{Columns}
+use Rattle.schema.specs.Bytes.{bit}
+use Rattle.rules.specs.Lists.{𝟘}
+use Rattle.rules.specs.Values.{folded}
 use Rattle.rules.specs.Rows.{Row, live}
 use Rattle.rules.specs.Keys.{sameKey}
+use Rattle.rules.specs.Found.{cellIs}
 use Rattle.rules.specs.KeyValues.{keyValues, hasKey}
 use Rattle.rows.specs.declared.SoughtKey.{SoughtKey}
+use Rattle.rows.specs.KeyColumns.{foldsIn}
 
--- its columns in the rows that are searched, and the values that they must have
+-- a live row with the value v in column c, which is not folded
+unfoldable pub hasValue : ℕ → ℤ → Row → Bool
+hasValue c v row = live row && cellIs false false v c row
+
+-- a sought key: which of its columns are compared folded, its columns in the rows that are searched, and the values that they must have
+abbrev pub soughtFolds : SoughtKey → List Bool
+soughtFolds key = foldsIn (key .n) (key .folded)
+
 abbrev pub soughtColumns : SoughtKey → List ℕ
 soughtColumns key = take (key .n) (key .cs)
 
@@ -21,21 +33,39 @@ soughtValues key = take (key .n) (key .vs)
 
 -- a live row that has it
 unfoldable pub hasSought : SoughtKey → Row → Bool
-hasSought key row = hasKey (soughtColumns key) (soughtValues key) row
+hasSought key row = hasKey (soughtFolds key) (soughtColumns key) (soughtValues key) row
 
 -- its columns are in rows of w words
 pub record SoughtIn (w : ℕ) (key : SoughtKey) : Type 0 where
   pub columns : Columns w (key .n) (key .cs)
   pub size : length (key .vs) ≡ 8
 
--- a live row whose key in columns cs is that of an image in columns ds
-unfoldable pub withKey : List ℕ → List ℕ → Row → Row → Bool
-withKey cs ds image row = live row && sameKey cs ds row image
+-- the first n of the values xs are those of vs as their columns compare them, by the bits of f
+pub record FoldedValues (f n : ℕ) (vs xs : List ℤ) : Type 0 where
+  pub each : (i : ℕ) → i < n → getD xs i 𝟘 ≡ folded (bit i f) (getD vs i 𝟘)
 
--- it is the key of an image, which has no NULL in it: n columns, at the start of ds in the image, of cs in the rows that are searched
-pub record SoughtOf (n : ℕ) (cs ds : List ℕ) (image : Row) (key : SoughtKey) : Type 0 where
+-- its values are as their columns compare them
+pub record Folded (key : SoughtKey) : Type 0 where
+  pub kept : (i : ℕ) → i < key .n → folded (bit i (key .folded)) (getD (key .vs) i 𝟘) ≡ getD (key .vs) i 𝟘
+
+-- the key x is `key` with its values so; the same rows have it
+pub record FoldedKey (key x : SoughtKey) : Type 0 where
+  pub folded-is : x .folded ≡ key .folded
+  pub width-is : x .n ≡ key .n
+  pub columns-are : x .cs ≡ key .cs
+  pub size : length (x .vs) ≡ 8
+  pub values : Folded x
+  pub same : (row : Row) → hasSought x row ≡ hasSought key row
+
+-- a live row whose key in columns cs is that of an image in columns ds
+unfoldable pub withKey : List Bool → List ℕ → List ℕ → Row → Row → Bool
+withKey fs cs ds image row = live row && sameKey fs cs ds row image
+
+-- it is the key of an image, which has no NULL in it: n columns, at the start of ds in the image, of cs in the rows that are searched; folded where the bits of f say so
+pub record SoughtOf (f n : ℕ) (cs ds : List ℕ) (image : Row) (key : SoughtKey) : Type 0 where
+  pub folded-is : key .folded ≡ f
   pub width-is : key .n ≡ n
   pub columns-are : key .cs ≡ cs
   pub values-are : take n (key .vs) ≡ keyValues (take n ds) image
   pub size : length (key .vs) ≡ 8
-  pub same : (row : Row) → hasSought key row ≡ withKey (take n cs) (take n ds) image row
+  pub same : (row : Row) → hasSought key row ≡ withKey (foldsIn n f) (take n cs) (take n ds) image row

@@ -4,19 +4,21 @@ ghost use mathlib.Core.Bool.{true, false, not, _&&_};
 ghost use Prim.Native.Nat.{suc, _+_, _≤_, _<_};
 ghost use lib.ListN.{length, take};
 ghost use Rattle.schema.specs.Bounds.{Columns};
-ghost use Rattle.schema.specs.Bytes.{bit};
+ghost use Rattle.schema.specs.Bytes.{bit, foldsOf};
 ghost use Rattle.schema.specs.Records.{tableOf, keyOf};
 ghost use Rattle.schema.specs.Fields.{schemaOf};
 ghost use Rattle.schema.specs.Check.{checkSchema};
 ghost use Rattle.rules.specs.Lists;
+ghost use Rattle.rules.specs.Values.{folded};
 ghost use Rattle.rules.specs.Rows;
 ghost use Rattle.rules.specs.Keys;
-ghost use Rattle.rules.specs.Found.{cellIs, isFound};
+ghost use Rattle.rules.specs.Found.{cellIs};
 ghost use Rattle.rules.specs.KeyValues.{keyValues, holdsKey};
 ghost use Rattle.rules.specs.Change;
 ghost use Rattle.bridge.specs.Ready.{rowIn};
 ghost use Rattle.rows.specs.Standing.{RowAt, RowsOf};
-ghost use Rattle.rows.specs.Sought.{soughtColumns, soughtValues, hasSought, SoughtIn, SoughtOf};
+ghost use Rattle.rows.specs.KeyColumns.{foldsIn, WholeParent, ParentColumns, KeyColumns};
+ghost use Rattle.rows.specs.Sought.{soughtFolds, soughtColumns, soughtValues, hasValue, hasSought, SoughtIn, FoldedValues, Folded, FoldedKey, SoughtOf};
 use schema::SchemaAnswer;
 
 // The rows of a table: their first word, the words of a row, how many there are.
@@ -26,9 +28,19 @@ pub struct TableRows {
     pub count: usize,
 }
 
-// A sought key: its n columns in the rows that are searched, and the values that they must have. None of them is NULL.
+// The column pairs of a foreign key: n of them, which are folded (bit i for pair i), the child columns and the parent columns.
+pub struct KeyPairs {
+    pub n: usize,
+    pub folded: usize,
+    pub cs: [usize; 8],
+    pub ps: [usize; 8],
+}
+
+// A sought key: its n columns in the rows that are searched, which of them are compared folded (bit i for the column of
+// place i), and the values that they must have. None of them is NULL.
 pub struct SoughtKey {
     pub n: usize,
+    pub folded: usize,
     pub cs: [usize; 8],
     pub vs: [i64; 8],
 }
@@ -77,7 +89,7 @@ pub fn image_full_key(image: [i64; 9], n: usize, cs: [usize; 8]) -> bool
 }
 
 // Bit i of a mask as a number.
-fn bit_number(i: usize, m: usize) -> usize
+pub fn bit_number(i: usize, m: usize) -> usize
     requires { ⌜ i < 64 ⌝ }
     ensures { λ x. ⌜ (x ≡ Lists.one (bit i m)) × (x ≤ 1) ⌝ }
 {
@@ -132,24 +144,61 @@ fn key_values(image: [i64; 9], n: usize, ds: [usize; 8]) -> [i64; 8]
 }
 
 // The key of an image with no NULL in it, to be searched for in columns cs.
-pub fn sought_key(image: [i64; 9], n: usize, cs: [usize; 8], ds: [usize; 8]) -> SoughtKey
+pub fn sought_key(
+    image: [i64; 9],
+    folded: usize,
+    n: usize,
+    cs: [usize; 8],
+    ds: [usize; 8],
+) -> SoughtKey
     requires { ⌜ Columns 9 n ds × (Keys.fullKey (take n ds) image ≡ true) ⌝ }
-    ensures { λ x. ⌜ SoughtOf n cs ds image x ⌝ }
+    ensures { λ x. ⌜ SoughtOf folded n cs ds image x ⌝ }
 {
     let vs = key_values(image, n, ds);
     SoughtKey {
         n: n,
+        folded: folded,
         cs: cs,
         vs: vs,
     }
 }
 
-// Whether column c of the row at p is not NULL and has the value v.
-fn holds_value(area: &[i64], p: usize, w: usize, c: usize, v: i64) -> bool
-    requires { ⌜ RowAt (now area) p w × (suc c < w) ⌝ }
-    ensures { λ x. ⌜ x ≡ cellIs false v c (rowIn (now (area .entry)) p w) ⌝ }
+// n values as their columns compare them: folded where bit i says so.
+fn fold_values(folded: usize, n: usize, vs: [i64; 8]) -> [i64; 8]
+    requires { ⌜ n ≤ 8 ⌝ }
+    ensures { λ x. ⌜ FoldedValues folded n vs x ⌝ }
 {
-    let u = area[p + c + 1];
+    let mut xs = vs;
+    let mut i = 0;
+    while i < n {
+        xs[i] = folding::compared(numbers::bit_of(i, folded), vs[i]);
+        i += 1;
+    }
+    xs
+}
+
+// A sought key with its values as their columns compare them: the same rows have it.
+pub fn fold_key(key: SoughtKey) -> SoughtKey
+    requires { ⌜ SoughtIn 9 key ⌝ }
+    ensures { λ x. ⌜ FoldedKey key x ⌝ }
+{
+    let cs = key.cs;
+    let typed = key.vs;
+    let vs = fold_values(key.folded, key.n, typed);
+    SoughtKey {
+        n: key.n,
+        folded: key.folded,
+        cs: cs,
+        vs: vs,
+    }
+}
+
+// Whether column c of the row at p, compared folded or not, is not NULL and has the value v, which is folded if they are.
+fn holds_value(area: &[i64], p: usize, w: usize, f: bool, c: usize, v: i64) -> bool
+    requires { ⌜ RowAt (now area) p w × ((suc c < w) × (folded f v ≡ v)) ⌝ }
+    ensures { λ x. ⌜ x ≡ cellIs f false v c (rowIn (now (area .entry)) p w) ⌝ }
+{
+    let u = folding::compared(f, area[p + c + 1]);
     if !words::same_word(u, v) {
         return false;
     }
@@ -157,12 +206,12 @@ fn holds_value(area: &[i64], p: usize, w: usize, c: usize, v: i64) -> bool
     !numbers::bit_of(c, s)
 }
 
-// Whether the row at p is live, and its column c is not NULL and has the value v.
+// Whether the row at p is live, and its column c, which is not folded, is not NULL and has the value v.
 pub fn has_value(area: &[i64], p: usize, w: usize, c: usize, v: i64) -> bool
     requires { ⌜ RowAt (now area) p w × (suc c < w) ⌝ }
-    ensures { λ x. ⌜ x ≡ isFound c false v (rowIn (now (area .entry)) p w) ⌝ }
+    ensures { λ x. ⌜ x ≡ hasValue c v (rowIn (now (area .entry)) p w) ⌝ }
 {
-    if !holds_value(area, p, w, c, v) {
+    if !holds_value(area, p, w, false, c, v) {
         return false;
     }
     is_live(words::nat_at(area, p))
@@ -170,15 +219,16 @@ pub fn has_value(area: &[i64], p: usize, w: usize, c: usize, v: i64) -> bool
 
 // Whether the row at p has no NULL in a sought key's columns, and has its values there.
 fn holds_key(area: &[i64], p: usize, w: usize, key: SoughtKey) -> bool
-    requires { ⌜ RowAt (now area) p w × SoughtIn w key ⌝ }
-    ensures { λ x. ⌜ x ≡ holdsKey (soughtColumns key) (soughtValues key) (rowIn (now (area .entry)) p w) ⌝ }
+    requires { ⌜ RowAt (now area) p w × (SoughtIn w key × Folded key) ⌝ }
+    ensures { λ x. ⌜ x ≡ holdsKey (soughtFolds key) (soughtColumns key) (soughtValues key) (rowIn (now (area .entry)) p w) ⌝ }
 {
     let n = key.n;
     let mut i = 0;
     while i < n {
+        let f = numbers::bit_of(i, key.folded);
         let c = key.cs[i];
         let v = key.vs[i];
-        if !holds_value(area, p, w, c, v) {
+        if !holds_value(area, p, w, f, c, v) {
             return false;
         }
         i += 1;
@@ -188,21 +238,13 @@ fn holds_key(area: &[i64], p: usize, w: usize, key: SoughtKey) -> bool
 
 // Whether the row at p is live and has a sought key.
 pub fn has_key(area: &[i64], p: usize, w: usize, key: SoughtKey) -> bool
-    requires { ⌜ RowAt (now area) p w × SoughtIn w key ⌝ }
+    requires { ⌜ RowAt (now area) p w × (SoughtIn w key × Folded key) ⌝ }
     ensures { λ x. ⌜ x ≡ hasSought key (rowIn (now (area .entry)) p w) ⌝ }
 {
     if !holds_key(area, p, w, key) {
         return false;
     }
     is_live(words::nat_at(area, p))
-}
-
-// Whether an image has no NULL in a sought key's columns, and has its values there.
-fn image_holds_key(image: [i64; 9], key: SoughtKey) -> bool
-    requires { ⌜ SoughtIn 9 key ⌝ }
-    ensures { λ x. ⌜ x ≡ holdsKey (soughtColumns key) (soughtValues key) image ⌝ }
-{
-    holds_key(&image[0..9], 0, 9, key)
 }
 
 // ---- NOT NULL
@@ -280,12 +322,89 @@ pub fn mask_columns(m: usize) -> [usize; 8]
     list
 }
 
+// ---- folded columns
+
+// Which of n columns are in a mask of folded columns, bit i for the column of place i.
+pub fn folds_among(mask: usize, n: usize, cs: [usize; 8]) -> usize
+    requires { ⌜ Columns 9 n cs ⌝ }
+    ensures { λ x. ⌜ foldsIn n x ≡ foldsOf mask (take n cs) ⌝ }
+{
+    let mut f = 0;
+    let mut i = 0;
+    while i < n {
+        f = numbers::marked(f, i, numbers::bit_of(cs[i], mask));
+        i += 1;
+    }
+    f
+}
+
+// Which of foreign key k's pairs are folded: those whose parent column is. The key is not broken and has n parent columns.
+fn key_folds(schema: &[u8], k: usize, n: usize, ps: [usize; 8]) -> usize
+    requires { ⌜ ParentColumns (now schema) k n ps ⌝ }
+    ensures { λ x. ⌜ foldsIn n x ≡ keyOf (schemaOf (now (schema .entry))) k .folds ⌝ }
+{
+    let t = fields::parent(schema, k);
+    let mask = fields::folded(schema, t);
+    if mask == 0 {
+        return 0;
+    }
+    folds_among(mask, n, ps)
+}
+
+// The column pairs of foreign key k, which is not broken.
+pub fn key_pairs(schema: &[u8], k: usize) -> KeyPairs
+    requires { ⌜ (checkSchema (now schema) ≡ SchemaAnswer.Accepted) × ((k < length (schemaOf (now schema) .keys)) × (keyOf (schemaOf (now schema)) k .broken ≡ false)) ⌝ }
+    ensures { λ x. ⌜ KeyColumns (now (schema .entry)) k x ⌝ }
+{
+    let n = fields::width(schema, k);
+    let cs = fields::child_columns(schema, k);
+    let ps = fields::parent_columns(schema, k);
+    let folded = key_folds(schema, k, n, ps);
+    KeyPairs {
+        n: n,
+        folded: folded,
+        cs: cs,
+        ps: ps,
+    }
+}
+
 // ---- what an action looks at
 
-// Whether an old parent key without NULL is not the new one. A deleted row has none.
-fn key_changes(old: [i64; 9], new: [i64; 9], n: usize, ps: [usize; 8]) -> bool
+// Whether column c of two images is equal, compared folded or not.
+fn same_cell(x: [i64; 9], y: [i64; 9], f: bool, c: usize) -> bool
+    requires { ⌜ c < 8 ⌝ }
+    ensures { λ r. ⌜ r ≡ Keys.sameCell f x y c c ⌝ }
+{
+    let u = folding::compared(f, x[c + 1]);
+    let v = folding::compared(f, y[c + 1]);
+    if !words::same_word(u, v) {
+        return false;
+    }
+    let first = words::nat_of(x[0]);
+    let second = words::nat_of(y[0]);
+    !numbers::bit_of(c, first) & !numbers::bit_of(c, second)
+}
+
+// Whether the keys of two images in n columns are equal; the mask has the folded columns.
+fn same_key(x: [i64; 9], y: [i64; 9], mask: usize, n: usize, cs: [usize; 8]) -> bool
+    requires { ⌜ Columns 9 n cs ⌝ }
+    ensures { λ r. ⌜ r ≡ Keys.sameKey (foldsOf mask (take n cs)) (take n cs) (take n cs) x y ⌝ }
+{
+    let mut i = 0;
+    while i < n {
+        let c = cs[i];
+        if !same_cell(x, y, numbers::bit_of(c, mask), c) {
+            return false;
+        }
+        i += 1;
+    }
+    true
+}
+
+// Whether an old parent key without NULL is not the new one, in a table with these folded columns. A deleted row has none.
+fn key_changes(old: [i64; 9], new: [i64; 9], mask: usize, n: usize, ps: [usize; 8]) -> bool
     requires { ⌜ Columns 9 n ps ⌝ }
-    ensures { λ x. ⌜ x ≡ Keys.fullKey (take n ps) old && not (Rows.live new && Keys.sameKey (take n ps) (take n ps) new old) ⌝ }
+    ensures { λ x. ⌜ x ≡ Keys.fullKey (take n ps) old && not (Rows.live new && Keys.sameKey (foldsOf mask (take n ps)) (take n ps) (take n ps) new old) ⌝ }
 {
     if !image_full_key(old, n, ps) {
         return false;
@@ -293,19 +412,15 @@ fn key_changes(old: [i64; 9], new: [i64; 9], n: usize, ps: [usize; 8]) -> bool
     if !image_live(new) {
         return true;
     }
-    let key = sought_key(old, n, ps, ps);
-    !image_holds_key(new, key)
+    !same_key(new, old, mask, n, ps)
 }
 
-// Whether actions of foreign key k, which is not broken, follow the change of a row of table t from `old` to `new`.
+// Whether actions of foreign key k, which is not broken, follow the change of a row of its parent table t from `old` to `new`.
 pub fn fires(schema: &[u8], t: usize, old: [i64; 9], new: [i64; 9], k: usize) -> bool
-    requires { ⌜ (checkSchema (now schema) ≡ SchemaAnswer.Accepted) × ((k < length (schemaOf (now schema) .keys)) × (keyOf (schemaOf (now schema)) k .broken ≡ false)) ⌝ }
+    requires { ⌜ WholeParent (now schema) t k ⌝ }
     ensures { λ x. ⌜ x ≡ Keys.fires new t old (keyOf (schemaOf (now (schema .entry))) k) ⌝ }
 {
-    if fields::parent(schema, k) != t {
-        return false;
-    }
     let n = fields::width(schema, k);
     let ps = fields::parent_columns(schema, k);
-    key_changes(old, new, n, ps)
+    key_changes(old, new, fields::folded(schema, t), n, ps)
 }

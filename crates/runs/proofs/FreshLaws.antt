@@ -11,7 +11,7 @@ use Rattle.schema.specs.declared.SchemaAnswer.the-variants.{Accepted, Malformed
 use Rattle.schema.specs.Fields.{schemaOf}
 use Rattle.schema.specs.Check.{checkSchema}
 use Rattle.rules.specs.Lists.{𝟘}
-use Rattle.rules.specs.Values.{allZero, sameValue}
+use Rattle.rules.specs.Values.{allZero, sameWord}
 use Rattle.rules.specs.Area.{freshWords}
 use Rattle.bridge.proofs.Bits.{same-eq}
 use Rattle.bridge.proofs.Tests.{all-head, all-tail}
@@ -23,7 +23,7 @@ use Rattle.fresh_area.proofs.FreshLaws.{words-accepted, words-malformed}
 all-zeros : (ws : List ℤ) → allZero ws ≡ true → ws ≡ replicate (length ws) 𝟘
 unfolding allZero
 all-zeros [] h = refl
-all-zeros (w ∷ ws) h = ap₂ (λ (x : ℤ) (xs : List ℤ). x ∷ xs) (sym (same-eq 𝟘 w (all-head (sameValue 𝟘) w ws h))) (all-zeros ws (all-tail (sameValue 𝟘) w ws h))
+all-zeros (w ∷ ws) h = ap₂ (λ (x : ℤ) (xs : List ℤ). x ∷ xs) (sym (same-eq 𝟘 w (all-head (sameWord 𝟘) w ws h))) (all-zeros ws (all-tail (sameWord 𝟘) w ws h))
 
 -- as long as the schema needs, and all zeros
 pub blank-reached : (bs : List ℕ) (ws : List ℤ) → (areaWords bs ≡ 0 → ⊥) → length ws ≡ areaWords bs → allZero ws ≡ true → Reached bs ws

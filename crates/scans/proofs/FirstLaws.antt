@@ -10,19 +10,22 @@ use borrow.Author.Tests.{ltb-true, ltb-false}
 use lib.Dec.{ltb}
 use lib.IntN.{ℤ}
 use lib.ListN.{length, getD, take, drop}
+use Rattle.schema.specs.Bytes.{bit}
+use Rattle.schema.proofs.MaskLaws.{bit-none}
 use Rattle.rules.specs.Lists.{𝟘, any, count, one}
 use Rattle.rules.specs.Rows.{Row, live}
-use Rattle.rules.specs.Found.{cellIs, isFound}
+use Rattle.rules.specs.Found.{cellIs}
 use Rattle.rules.specs.KeyValues.{holdsKey, hasKey}
 use Rattle.bridge.proofs.CountLaws.{any-cons}
 use Rattle.bridge.proofs.KeyLaws.{and-comm}
 use Rattle.bridge.specs.Ready.{rowIn}
 use Rattle.rows.specs.declared.SoughtKey.{SoughtKey}
 use Rattle.rows.specs.declared.TableRows.{TableRows}
-use Rattle.rows.specs.Sought.{hasSought, SoughtIn}
+use Rattle.rows.specs.Sought.{hasValue, hasSought, SoughtIn}
 use Rattle.rows.specs.Standing.{rowsIn}
 use Rattle.bridge.proofs.LoopLaws.{any-none, any-hit, count-more, count-none}
 use Rattle.rows.proofs.TableLaws.{rows-many, row-get}
+use Rattle.rows.proofs.SoughtLaws.{folds-get}
 use Rattle.scans.specs.FirstFrom.{FirstFrom, FirstRow}
 
 -- what a test of row j in the words comes to
@@ -149,8 +152,10 @@ module _ (key : SoughtKey) {w : ℕ} (k : SoughtIn w key) (e : key .n ≡ 1) whe
       head [] h = absurd (omega arith)
       head (y ∷ ys) h = refl
 
-  pub one-value : (row : Row) → isFound (getD (key .cs) 0 0) false (getD (key .vs) 0 𝟘) row ≡ hasSought key row
-  unfolding isFound hasSought hasKey holdsKey
-  one-value row =
+  pub one-value : key .folded ≡ 0 → (row : Row) → hasValue (getD (key .cs) 0 0) (getD (key .vs) 0 𝟘) row ≡ hasSought key row
+  unfolding hasValue hasSought hasKey holdsKey
+  one-value plain row =
       rw (one-part 0 (key .cs) (k .columns .size), one-part 𝟘 (key .vs) (k .size))
-      (ap (λ (b : Bool). live row && b) (and-comm true (cellIs false (getD (key .vs) 0 𝟘) (getD (key .cs) 0 0) row)))
+      (ap (λ (b : Bool). live row && b)
+      (and-comm true (cellIs false false (getD (key .vs) 0 𝟘) (getD (key .cs) 0 0) row)
+      ∙ ap (λ (f : Bool). cellIs f false (getD (key .vs) 0 𝟘) (getD (key .cs) 0 0) row && true) (sym (folds-get (key .folded) (key .n) 0 (omega (arith, e)) ∙ ap (bit 0) plain ∙ bit-none 0))))

@@ -1,26 +1,25 @@
 // Scans of a table's rows for a key.
 ghost use mathlib.Core.Path.{_≡_};
-ghost use mathlib.Core.Bool.{false};
 ghost use Prim.Native.Nat.{suc, _+_, _*_, _≤_, _<_};
 ghost use Rattle.rules.specs.Lists;
-ghost use Rattle.rules.specs.Found.{isFound};
 ghost use Rattle.moves.specs.Movement.{except};
 ghost use Rattle.bridge.specs.Ready.{rowIn};
 ghost use Rattle.rows.specs.Standing.{RowAt, Standing, rowsIn};
-ghost use Rattle.rows.specs.Sought.{hasSought, SoughtIn};
-ghost use Rattle.skips.specs.Skipped.{firstWords};
+ghost use Rattle.rows.specs.Sought.{hasValue, hasSought, SoughtIn, Folded};
+ghost use Rattle.skips.specs.Skipped.{firstWords, maskedPair};
 ghost use Rattle.scans.specs.Parts.{rowsBefore, rowsAfter};
 ghost use Rattle.scans.specs.FirstFrom.{FirstRow};
 use rows::SoughtKey;
 use rows::TableRows;
+use skips::MaskedPair;
 use skips::TwoWords;
 
 // ---- all rows
 
-// The first row from `from` on that is live and has the value v in column c; the number of rows where there is none.
+// The first row from `from` on that is live and has the value v, not folded, in column c; the number of rows where there is none.
 fn first_with_value(area: &[i64], table: TableRows, c: usize, v: i64, from: usize) -> usize
     requires { ⌜ (Standing (now area) table × (from ≤ table .count)) × (suc c < table .width) ⌝ }
-    ensures { λ x. ⌜ FirstRow (isFound c false v) (now (area .entry)) table from x ⌝ }
+    ensures { λ x. ⌜ FirstRow (hasValue c v) (now (area .entry)) table from x ⌝ }
 {
     let start = table.start;
     let w = table.width;
@@ -37,7 +36,7 @@ fn first_with_value(area: &[i64], table: TableRows, c: usize, v: i64, from: usiz
 
 // Whether the row at p is live and has a sought key of two columns or more; most that have not are told by those two.
 fn has_composite(area: &[i64], p: usize, w: usize, pair: TwoWords, key: SoughtKey) -> bool
-    requires { ⌜ (RowAt (now area) p w × SoughtIn w key) × ((2 ≤ key .n) × (pair ≡ firstWords key)) ⌝ }
+    requires { ⌜ (RowAt (now area) p w × SoughtIn w key) × (((2 ≤ key .n) × (key .folded ≡ 0)) × (pair ≡ firstWords key)) ⌝ }
     ensures { λ x. ⌜ x ≡ hasSought key (rowIn (now (area .entry)) p w) ⌝ }
 {
     if !skips::is_alike(area, p, w, pair) {
@@ -46,9 +45,9 @@ fn has_composite(area: &[i64], p: usize, w: usize, pair: TwoWords, key: SoughtKe
     rows::has_key(area, p, w, key)
 }
 
-// The same as `first_with_key`, for a key of two columns or more.
+// The same as `first_with_key`, for a key of two columns or more, none of them folded.
 fn first_with_composite(area: &[i64], table: TableRows, key: SoughtKey, from: usize) -> usize
-    requires { ⌜ (Standing (now area) table × (from ≤ table .count)) × ((2 ≤ key .n) × SoughtIn (table .width) key) ⌝ }
+    requires { ⌜ (Standing (now area) table × (from ≤ table .count)) × (((2 ≤ key .n) × (key .folded ≡ 0)) × SoughtIn (table .width) key) ⌝ }
     ensures { λ x. ⌜ FirstRow (hasSought key) (now (area .entry)) table from x ⌝ }
 {
     let start = table.start;
@@ -65,15 +64,89 @@ fn first_with_composite(area: &[i64], table: TableRows, key: SoughtKey, from: us
     rows
 }
 
-// The first row from `from` on that is live and has a sought key; the number of rows where there is none.
-pub fn first_with_key(area: &[i64], table: TableRows, key: SoughtKey, from: usize) -> usize
-    requires { ⌜ (Standing (now area) table × (from ≤ table .count)) × ((1 ≤ key .n) × SoughtIn (table .width) key) ⌝ }
+// The same as `first_with_key`, for a key with no folded column.
+fn first_with_plain(area: &[i64], table: TableRows, key: SoughtKey, from: usize) -> usize
+    requires { ⌜ (Standing (now area) table × (from ≤ table .count)) × (((1 ≤ key .n) × (key .folded ≡ 0)) × SoughtIn (table .width) key) ⌝ }
     ensures { λ x. ⌜ FirstRow (hasSought key) (now (area .entry)) table from x ⌝ }
 {
     if key.n == 1 {
         return first_with_value(area, table, key.cs[0], key.vs[0], from);
     }
     first_with_composite(area, table, key, from)
+}
+
+// The same as `first_with_key`, for a key of one column, which is folded.
+fn first_folded_value(area: &[i64], table: TableRows, key: SoughtKey, from: usize) -> usize
+    requires { ⌜ (Standing (now area) table × (from ≤ table .count)) × ((key .n ≡ 1) × (SoughtIn (table .width) key × Folded key)) ⌝ }
+    ensures { λ x. ⌜ FirstRow (hasSought key) (now (area .entry)) table from x ⌝ }
+{
+    let start = table.start;
+    let w = table.width;
+    let rows = table.count;
+    let word = skips::masked_word(key, 0);
+    let mut k = skips::skip_masked(area, table, word, from);
+    while k < rows {
+        if rows::has_key(area, start + k * w, w, key) {
+            return k;
+        }
+        k = skips::skip_masked(area, table, word, k + 1);
+    }
+    rows
+}
+
+// Whether the row at p is live and has a sought key of two columns or more, which is folded; most that have not are told by
+// the bits that those two are looked at by first.
+fn has_folded(area: &[i64], p: usize, w: usize, pair: MaskedPair, key: SoughtKey) -> bool
+    requires { ⌜ (RowAt (now area) p w × (SoughtIn w key × Folded key)) × ((2 ≤ key .n) × (pair ≡ maskedPair key)) ⌝ }
+    ensures { λ x. ⌜ x ≡ hasSought key (rowIn (now (area .entry)) p w) ⌝ }
+{
+    if !skips::is_near(area, p, w, pair) {
+        return false;
+    }
+    rows::has_key(area, p, w, key)
+}
+
+// The same as `first_with_key`, for a key of two columns or more, which is folded.
+fn first_folded_composite(area: &[i64], table: TableRows, key: SoughtKey, from: usize) -> usize
+    requires { ⌜ (Standing (now area) table × (from ≤ table .count)) × ((2 ≤ key .n) × (SoughtIn (table .width) key × Folded key)) ⌝ }
+    ensures { λ x. ⌜ FirstRow (hasSought key) (now (area .entry)) table from x ⌝ }
+{
+    let start = table.start;
+    let w = table.width;
+    let rows = table.count;
+    let pair = skips::masked_pair(key);
+    let mut r = skips::skip_far(area, table, pair, from);
+    while r < rows {
+        if has_folded(area, start + r * w, w, pair, key) {
+            return r;
+        }
+        r = skips::skip_far(area, table, pair, r + 1);
+    }
+    rows
+}
+
+// The same as `first_with_key`, for a key with folded columns, which is folded.
+fn first_with_folded(area: &[i64], table: TableRows, key: SoughtKey, from: usize) -> usize
+    requires { ⌜ (Standing (now area) table × (from ≤ table .count)) × ((1 ≤ key .n) × (SoughtIn (table .width) key × Folded key)) ⌝ }
+    ensures { λ x. ⌜ FirstRow (hasSought key) (now (area .entry)) table from x ⌝ }
+{
+    if key.n == 1 {
+        return first_folded_value(area, table, key, from);
+    }
+    first_folded_composite(area, table, key, from)
+}
+
+// The first row from `from` on that is live and has a sought key; the number of rows where there is none. A key with folded
+// columns is folded once, before the first row is looked at.
+pub fn first_with_key(area: &[i64], table: TableRows, key: SoughtKey, from: usize) -> usize
+    requires { ⌜ (Standing (now area) table × (from ≤ table .count)) × ((1 ≤ key .n) × SoughtIn (table .width) key) ⌝ }
+    ensures { λ x. ⌜ FirstRow (hasSought key) (now (area .entry)) table from x ⌝ }
+{
+    if key.folded != 0 {
+        let folded = rows::fold_key(key);
+        return first_with_folded(area, table, folded, from);
+    }
+    first_with_plain(area, table, key, from)
 }
 
 // Whether one of the rows is live and has a sought key.

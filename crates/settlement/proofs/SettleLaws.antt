@@ -12,7 +12,7 @@ use Rattle.schema.specs.Records.{ForeignKey, Schema, noKey}
 use Rattle.rules.specs.declared.Refusal.the-variants.{KeptOutOfRange, OrphansLeft}
 use Rattle.rules.specs.declared.Verdict.the-variants.{Pass, Fail}
 use Rattle.rules.specs.Lists.{𝟘}
-use Rattle.rules.specs.Values.{sameValue, allZero}
+use Rattle.rules.specs.Values.{sameWord, allZero}
 use Rattle.rules.specs.Refusals.{failing}
 use Rattle.rules.specs.Book.{Book, withWork, emptied}
 use Rattle.rules.specs.Change.{go}
@@ -25,14 +25,14 @@ use Rattle.settlement.specs.Settled.{settleVerdict}
 
 module _ (ks : List ForeignKey) (xs : List ℤ) (k : ℕ) where
   module _ (h : k < length ks) (l : k < length xs) where
-    immediate-at : immediateZero (drop k ks) (drop k xs) ≡ (getD ks k noKey .deferred || sameValue 𝟘 (getD xs k 𝟘)) && immediateZero (drop (k + 1) ks) (drop (k + 1) xs)
+    immediate-at : immediateZero (drop k ks) (drop k xs) ≡ (getD ks k noKey .deferred || sameWord 𝟘 (getD xs k 𝟘)) && immediateZero (drop (k + 1) ks) (drop (k + 1) xs)
     unfolding immediateZero
     immediate-at = rw (add-one k, drop-cons ks k noKey h, drop-cons xs k 𝟘 l) refl
 
-    pub immediate-miss : (getD ks k noKey .deferred || sameValue 𝟘 (getD xs k 𝟘)) ≡ false → immediateZero (drop k ks) (drop k xs) ≡ false
+    pub immediate-miss : (getD ks k noKey .deferred || sameWord 𝟘 (getD xs k 𝟘)) ≡ false → immediateZero (drop k ks) (drop k xs) ≡ false
     immediate-miss e = immediate-at ∙ ap (λ t. t && immediateZero (drop (k + 1) ks) (drop (k + 1) xs)) e
 
-    pub immediate-more : (getD ks k noKey .deferred || sameValue 𝟘 (getD xs k 𝟘)) ≡ true → immediateZero (drop k ks) (drop k xs) ≡ immediateZero (drop (k + 1) ks) (drop (k + 1) xs)
+    pub immediate-more : (getD ks k noKey .deferred || sameWord 𝟘 (getD xs k 𝟘)) ≡ true → immediateZero (drop k ks) (drop k xs) ≡ immediateZero (drop (k + 1) ks) (drop (k + 1) xs)
     immediate-more e = immediate-at ∙ ap (λ t. t && immediateZero (drop (k + 1) ks) (drop (k + 1) xs)) e
 
   pub immediate-end : k ≡ length ks → immediateZero (drop k ks) (drop k xs) ≡ true

@@ -12,55 +12,102 @@ use lib.Dec.{leb}
 use lib.IntN.{ℤ}
 use lib.ListN.{length, getD, take, drop}
 use lib.Seq.{getD-take, getD-drop}
+use Rattle.schema.specs.Bytes.{bit}
 use Rattle.schema.proofs.RangeLaws.{and-left, and-right}
+use Rattle.schema.proofs.MaskLaws.{bit-none}
 use Rattle.rules.specs.Lists.{𝟘}
-use Rattle.rules.specs.Values.{sameValue}
+use Rattle.rules.specs.Values.{sameWord, folded, sameValue}
 use Rattle.rules.specs.Rows.{Row, live, nullAt, valueAt}
-use Rattle.rules.specs.Found.{cellIs, isFound}
+use Rattle.rules.specs.Found.{cellIs}
 use Rattle.rules.specs.KeyValues.{holdsKey, hasKey}
 use Rattle.bridge.specs.Ready.{rowIn}
+use Rattle.bridge.proofs.Bits.{same-refl}
 use Rattle.bridge.proofs.Tests.{and-both}
 use Rattle.bridge.proofs.KeyLaws.{same-sym}
 use Rattle.rows.specs.declared.SoughtKey.{SoughtKey}
 use Rattle.rows.specs.declared.TableRows.{TableRows}
 use Rattle.rows.specs.Standing.{rowsIn}
-use Rattle.rows.specs.Sought.{soughtColumns, soughtValues, hasSought, SoughtIn}
+use Rattle.rows.specs.Sought.{soughtFolds, soughtColumns, soughtValues, hasValue, hasSought, SoughtIn}
 use Rattle.rows.proofs.TableLaws.{row-get}
+use Rattle.rows.proofs.SoughtLaws.{folds-get}
+use Rattle.folding.specs.Masks.{masked, firstMask}
+use Rattle.folding.proofs.FoldLaws.{masked-same}
 use Rattle.skips.specs.declared.TwoWords.{TwoWords}
-use Rattle.skips.specs.Skipped.{firstWords, hasWord, alike, oneOfFour, Skipped}
+use Rattle.skips.specs.declared.MaskedWord.{MaskedWord}
+use Rattle.skips.specs.declared.MaskedPair.{MaskedPair}
+use Rattle.skips.specs.Skipped.{firstWords, hasWord, alike, maskedWord, maskedPair, hasMasked, near, oneOfFour, Skipped}
 
 -- ---- a row that has a sought key has its words
 
-value-word : (row : Row) (c : ℕ) (v : ℤ) → cellIs false v c row ≡ true → hasWord (suc c) v row ≡ true
-unfolding cellIs hasWord valueAt
-value-word row c v h =
-    same-sym (getD row (suc c) 𝟘) v ∙ and-right (not (nullAt row c)) (sameValue v (getD row (suc c) 𝟘)) h
+-- the value of a cell, compared folded or not
+value-held : (row : Row) (f : Bool) (c : ℕ) (v : ℤ) → cellIs f false v c row ≡ true → sameValue f v (getD row (suc c) 𝟘) ≡ true
+unfolding cellIs valueAt
+value-held row f c v h = and-right (not (nullAt row c)) (sameValue f v (getD row (suc c) 𝟘)) h
 
-held-at : (row : Row) (n i : ℕ) (cs : List ℕ) (vs : List ℤ) → i < n → n ≤ length cs → n ≤ length vs → holdsKey (take n cs) (take n vs) row ≡ true → cellIs false (getD vs i 𝟘) (getD cs i 0) row ≡ true
+value-word : (row : Row) (c : ℕ) (v : ℤ) → cellIs false false v c row ≡ true → hasWord (suc c) v row ≡ true
+unfolding hasWord sameValue folded
+value-word row c v h = same-sym (getD row (suc c) 𝟘) v ∙ value-held row false c v h
+
+value-masked : (row : Row) (f : Bool) (c : ℕ) (v : ℤ) → cellIs f false v c row ≡ true → sameWord (masked (firstMask f) (getD row (suc c) 𝟘)) (masked (firstMask f) v) ≡ true
+value-masked row f c v h =
+    ap (sameWord (masked (firstMask f) (getD row (suc c) 𝟘))) (masked-same f v (getD row (suc c) 𝟘) (value-held row f c v h))
+    ∙ same-refl (masked (firstMask f) (getD row (suc c) 𝟘))
+
+held-at : (row : Row) (fs : List Bool) (n i : ℕ) (cs : List ℕ) (vs : List ℤ) → i < n → n ≤ length cs → n ≤ length vs → holdsKey fs (take n cs) (take n vs) row ≡ true → cellIs (getD fs i false) false (getD vs i 𝟘) (getD cs i 0) row ≡ true
 unfolding holdsKey
-held-at row zero i cs vs h l m e = absurd (omega arith)
-held-at row (suc n) i [] vs h l m e = absurd (omega arith)
-held-at row (suc n) i (c ∷ cs) [] h l m e = absurd (omega arith)
-held-at row (suc n) zero (c ∷ cs) (v ∷ vs) h l m e = and-left (cellIs false v c row) (holdsKey (take n cs) (take n vs) row) e
-held-at row (suc n) (suc i) (c ∷ cs) (v ∷ vs) h l m e =
-    held-at row n i cs vs (omega arith) (omega arith) (omega arith) (and-right (cellIs false v c row) (holdsKey (take n cs) (take n vs) row) e)
+held-at row fs zero i cs vs h l m e = absurd (omega arith)
+held-at row fs (suc n) i [] vs h l m e = absurd (omega arith)
+held-at row fs (suc n) i (c ∷ cs) [] h l m e = absurd (omega arith)
+held-at row fs (suc n) zero (c ∷ cs) (v ∷ vs) h l m e = and-left (cellIs (getD fs 0 false) false v c row) (holdsKey (drop 1 fs) (take n cs) (take n vs) row) e
+held-at row fs (suc n) (suc i) (c ∷ cs) (v ∷ vs) h l m e =
+    ap (λ f. cellIs f false (getD vs i 𝟘) (getD cs i 0) row) (next fs)
+    ∙ held-at row (drop 1 fs) n i cs vs (omega arith) (omega arith) (omega arith) (and-right (cellIs (getD fs 0 false) false v c row) (holdsKey (drop 1 fs) (take n cs) (take n vs) row) e)
+  where
+    next : (fs : List Bool) → getD fs (suc i) false ≡ getD (drop 1 fs) i false
+    next [] = refl
+    next (f ∷ fs) = refl
 
-module _ (key : SoughtKey) (two : 2 ≤ key .n) {w : ℕ} (k : SoughtIn w key) where
-  word-at : (row : Row) (i : ℕ) → i < key .n → holdsKey (soughtColumns key) (soughtValues key) row ≡ true → hasWord (suc (getD (key .cs) i 0)) (getD (key .vs) i 𝟘) row ≡ true
-  word-at row i h e =
-      value-word row (getD (key .cs) i 0) (getD (key .vs) i 𝟘)
-      (held-at row (key .n) i (key .cs) (key .vs) h (omega (arith, k .columns .few, k .columns .size)) (omega (arith, k .columns .few, k .size)) e)
+module _ (key : SoughtKey) {w : ℕ} (k : SoughtIn w key) where
+  cell-at : (row : Row) (i : ℕ) → i < key .n → hasSought key row ≡ true → cellIs (bit i (key .folded)) false (getD (key .vs) i 𝟘) (getD (key .cs) i 0) row ≡ true
+  unfolding hasSought hasKey
+  cell-at row i h e =
+      ap (λ f. cellIs f false (getD (key .vs) i 𝟘) (getD (key .cs) i 0) row) (sym (folds-get (key .folded) (key .n) i h))
+      ∙ held-at row (soughtFolds key) (key .n) i (key .cs) (key .vs) h (omega (arith, k .columns .few, k .columns .size)) (omega (arith, k .columns .few, k .size)) (and-right (live row) (holdsKey (soughtFolds key) (soughtColumns key) (soughtValues key) row) e)
 
-  alike-with : (row : Row) → hasSought key row ≡ true → alike (firstWords key) row ≡ true
-  unfolding hasSought hasKey alike firstWords
-  alike-with row e =
-      let held = and-right (live row) (holdsKey (soughtColumns key) (soughtValues key) row) e in
-      and-both (word-at row 0 (omega (arith, two)) held) (word-at row 1 (omega (arith, two)) held)
+  -- a key of two columns or more, none of them folded
+  module _ (two : 2 ≤ key .n) (plain : key .folded ≡ 0) where
+    word-at : (row : Row) (i : ℕ) → i < key .n → hasSought key row ≡ true → hasWord (suc (getD (key .cs) i 0)) (getD (key .vs) i 𝟘) row ≡ true
+    word-at row i h e =
+        value-word row (getD (key .cs) i 0) (getD (key .vs) i 𝟘)
+        (ap (λ f. cellIs f false (getD (key .vs) i 𝟘) (getD (key .cs) i 0) row) (sym (ap (bit i) plain ∙ bit-none i)) ∙ cell-at row i h e)
 
-  -- both are words of a row of w words
-  pub words-within : {s : TwoWords} → s ≡ firstWords key → (s .c < w) × (s .d < w)
-  unfolding firstWords
-  words-within e = rw e (k .columns .within 0 (omega (arith, two)), k .columns .within 1 (omega (arith, two)))
+    alike-with : (row : Row) → hasSought key row ≡ true → alike (firstWords key) row ≡ true
+    unfolding alike firstWords
+    alike-with row e = and-both (word-at row 0 (omega (arith, two)) e) (word-at row 1 (omega (arith, two)) e)
+
+    -- both are words of a row of w words
+    pub words-within : {s : TwoWords} → s ≡ firstWords key → (s .c < w) × (s .d < w)
+    unfolding firstWords
+    words-within e = rw e (k .columns .within 0 (omega (arith, two)), k .columns .within 1 (omega (arith, two)))
+
+  -- any column of any key
+  masked-with : (i : ℕ) → i < key .n → (row : Row) → hasSought key row ≡ true → hasMasked (maskedWord key i) row ≡ true
+  unfolding hasMasked maskedWord
+  masked-with i h row e = value-masked row (bit i (key .folded)) (getD (key .cs) i 0) (getD (key .vs) i 𝟘) (cell-at row i h e)
+
+  pub masked-within : (i : ℕ) → i < key .n → {s : MaskedWord} → s ≡ maskedWord key i → s .c < w
+  unfolding maskedWord
+  masked-within i h e = rw e (k .columns .within i h)
+
+  -- the first two
+  module _ (two : 2 ≤ key .n) where
+    near-with : (row : Row) → hasSought key row ≡ true → near (maskedPair key) row ≡ true
+    unfolding near maskedPair
+    near-with row e = and-both (masked-with 0 (omega (arith, two)) row e) (masked-with 1 (omega (arith, two)) row e)
+
+    pub pair-within : {s : MaskedPair} → s ≡ maskedPair key → (s .first .c < w) × (s .second .c < w)
+    unfolding maskedPair
+    pair-within e = rw e (masked-within 0 (omega (arith, two)) refl, masked-within 1 (omega (arith, two)) refl)
 
 -- ---- and one without them has not the key
 
@@ -68,22 +115,34 @@ never : {a b : Bool} → (a ≡ true → b ≡ true) → b ≡ false → a ≡ f
 never {a = true} f e = absurd (false≢true (sym e ∙ f refl))
 never {a = false} f e = refl
 
-pub without : (key : SoughtKey) → 2 ≤ key .n → {w : ℕ} → SoughtIn w key → {s : TwoWords} → s ≡ firstWords key → (row : Row) → alike s row ≡ false → hasSought key row ≡ false
-without key two k e row h = never (alike-with key two k row) (ap (λ s. alike s row) (sym e) ∙ h)
+pub without : (key : SoughtKey) → 2 ≤ key .n → key .folded ≡ 0 → {w : ℕ} → SoughtIn w key → {s : TwoWords} → s ≡ firstWords key → (row : Row) → alike s row ≡ false → hasSought key row ≡ false
+without key two plain k e row h = never (alike-with key k two plain row) (ap (λ s. alike s row) (sym e) ∙ h)
 
-without-word : (c : ℕ) (v : ℤ) (row : Row) → hasWord (suc c) v row ≡ false → isFound c false v row ≡ false
-unfolding isFound
-without-word c v row h = never (λ e. value-word row c v (and-right (live row) (cellIs false v c row) e)) h
+masked-without : (key : SoughtKey) (i : ℕ) → i < key .n → {w : ℕ} → SoughtIn w key → {s : MaskedWord} → s ≡ maskedWord key i → (row : Row) → hasMasked s row ≡ false → hasSought key row ≡ false
+masked-without key i l k e row h = never (masked-with key k i l row) (ap (λ s. hasMasked s row) (sym e) ∙ h)
+
+pub far-without : (key : SoughtKey) → 2 ≤ key .n → {w : ℕ} → SoughtIn w key → {s : MaskedPair} → s ≡ maskedPair key → (row : Row) → near s row ≡ false → hasSought key row ≡ false
+far-without key two k e row h = never (near-with key k two row) (ap (λ s. near s row) (sym e) ∙ h)
+
+without-word : (c : ℕ) (v : ℤ) (row : Row) → hasWord (suc c) v row ≡ false → hasValue c v row ≡ false
+unfolding hasValue
+without-word c v row h = never (λ e. value-word row c v (and-right (live row) (cellIs false false v c row) e)) h
 
 -- ---- rows that are passed over
 
 pub passed-by : {p q : Row → Bool} {a : List ℤ} {t : TableRows} {from x : ℕ} → ((row : Row) → q row ≡ false → p row ≡ false) → Skipped q a t from x → Skipped p a t from x
 passed-by f h = record { low = h .low; high = h .high; none = λ j l m. f _ (h .none j l m) }
 
-pub key-passed : {a : List ℤ} {t : TableRows} {from x : ℕ} (key : SoughtKey) → 2 ≤ key .n → {w : ℕ} → SoughtIn w key → {s : TwoWords} → s ≡ firstWords key → Skipped (alike s) a t from x → Skipped (hasSought key) a t from x
-key-passed key two k e = passed-by (without key two k e)
+pub key-passed : {a : List ℤ} {t : TableRows} {from x : ℕ} (key : SoughtKey) → 2 ≤ key .n → key .folded ≡ 0 → {w : ℕ} → SoughtIn w key → {s : TwoWords} → s ≡ firstWords key → Skipped (alike s) a t from x → Skipped (hasSought key) a t from x
+key-passed key two plain k e = passed-by (without key two plain k e)
 
-pub value-passed : {a : List ℤ} {t : TableRows} {from x : ℕ} (c : ℕ) (v : ℤ) → Skipped (hasWord (c + 1) v) a t from x → Skipped (isFound c false v) a t from x
+pub masked-passed : {a : List ℤ} {t : TableRows} {from x : ℕ} (key : SoughtKey) (i : ℕ) → i < key .n → {w : ℕ} → SoughtIn w key → {s : MaskedWord} → s ≡ maskedWord key i → Skipped (hasMasked s) a t from x → Skipped (hasSought key) a t from x
+masked-passed key i l k e = passed-by (masked-without key i l k e)
+
+pub far-passed : {a : List ℤ} {t : TableRows} {from x : ℕ} (key : SoughtKey) → 2 ≤ key .n → {w : ℕ} → SoughtIn w key → {s : MaskedPair} → s ≡ maskedPair key → Skipped (near s) a t from x → Skipped (hasSought key) a t from x
+far-passed key two k e = passed-by (far-without key two k e)
+
+pub value-passed : {a : List ℤ} {t : TableRows} {from x : ℕ} (c : ℕ) (v : ℤ) → Skipped (hasWord (c + 1) v) a t from x → Skipped (hasValue c v) a t from x
 value-passed c v = passed-by (λ row h. without-word c v row (ap (λ m. hasWord m v row) (sym (add-one c)) ∙ h))
 
 -- the rows that four more rows take
@@ -92,9 +151,22 @@ rows-fit j n w h = let low : j + 4 ≤ n = omega (arith, h) in mul-le-mul-right 
 
 -- ---- one row, four rows
 
-pub word-is : (a : List ℤ) (p w c : ℕ) (v : ℤ) → c < w → sameValue (getD a (p + c) 𝟘) v ≡ hasWord c v (rowIn a p w)
+pub word-is : (a : List ℤ) (p w c : ℕ) (v : ℤ) → c < w → sameWord (getD a (p + c) 𝟘) v ≡ hasWord c v (rowIn a p w)
 unfolding hasWord rowIn
-word-is a p w c v h = ap (λ z. sameValue z v) (sym (getD-take w (drop p a) c 𝟘 h ∙ getD-drop p a c 𝟘))
+word-is a p w c v h = ap (λ z. sameWord z v) (sym (getD-take w (drop p a) c 𝟘 h ∙ getD-drop p a c 𝟘))
+
+pub masked-is : (a : List ℤ) (p w : ℕ) (s : MaskedWord) → s .c < w → sameWord (masked (s .m) (getD a (p + s .c) 𝟘)) (s .v) ≡ hasMasked s (rowIn a p w)
+unfolding hasMasked rowIn
+masked-is a p w s h = ap (λ z. sameWord (masked (s .m) z) (s .v)) (sym (getD-take w (drop p a) (s .c) 𝟘 h ∙ getD-drop p a (s .c) 𝟘))
+
+module _ (s : MaskedPair) (row : Row) where
+  pub first-far : hasMasked (s .first) row ≡ false → near s row ≡ false
+  unfolding near
+  first-far e = rw e refl
+
+  pub second-near : hasMasked (s .first) row ≡ true → hasMasked (s .second) row ≡ near s row
+  unfolding near
+  second-near e = sym (ap (λ b. b && hasMasked (s .second) row) e)
 
 module _ (s : TwoWords) (row : Row) where
   pub first-differs : hasWord (s .c) (s .v) row ≡ false → alike s row ≡ false
@@ -176,3 +248,14 @@ words-are key {c} {d} {v} {u} ec ev ed eu =
     let c-is : c ≡ suc (getD (key .cs) 0 0) = ec ∙ add-one (getD (key .cs) 0 0) in
     let d-is : d ≡ suc (getD (key .cs) 1 0) = ed ∙ add-one (getD (key .cs) 1 0) in
     λ k. record { c = c-is k; v = ev k; d = d-is k; u = eu k }
+
+pub masked-are : (key : SoughtKey) (i : ℕ) {c : ℕ} {m v : ℤ} → c ≡ getD (key .cs) i 0 + 1 → m ≡ firstMask (bit i (key .folded)) → v ≡ masked m (getD (key .vs) i 𝟘) → record { c = c; m = m; v = v } ≡ maskedWord key i
+unfolding maskedWord
+masked-are key i {c} {m} {v} ec em ev =
+    let c-is : c ≡ suc (getD (key .cs) i 0) = ec ∙ add-one (getD (key .cs) i 0) in
+    let v-is : v ≡ masked (firstMask (bit i (key .folded))) (getD (key .vs) i 𝟘) = ev ∙ ap (λ z. masked z (getD (key .vs) i 𝟘)) em in
+    λ j. record { c = c-is j; m = em j; v = v-is j }
+
+pub pair-are : (key : SoughtKey) {x y : MaskedWord} → x ≡ maskedWord key 0 → y ≡ maskedWord key 1 → record { first = x; second = y } ≡ maskedPair key
+unfolding maskedPair
+pair-are key e f = λ j. record { first = e j; second = f j }

@@ -29,7 +29,7 @@ use Rattle.found.specs.Sought.{foundRow, foundAt, givenImage, foundChanges}
 module _ (s : Schema) (t : ℕ) (sought : Cell) (g : Given) where
   -- a row's turn
   abbrev turn : ℕ → Work → Result
-  turn = foundTurn s t (foundRow sought) (givenImage (tableOf s t .columns) g)
+  turn = foundTurn s t (foundRow (tableOf s t .folded) sought) (givenImage (tableOf s t .columns) g)
 
   -- the rows from row j on, of n rows
   unfoldable pub walkFrom : ℕ → ℕ → Work → Result
@@ -43,17 +43,17 @@ module _ (s : Schema) (t : ℕ) (sought : Cell) (g : Given) where
   unfolding walkFrom
   walk-end = turns-none turn
 
-  turn-idle : (i : ℕ) (w : Work) → foundAt t sought (w .tabs) i ≡ false → turn i w ≡ go w
+  turn-idle : (i : ℕ) (w : Work) → foundAt s t sought (w .tabs) i ≡ false → turn i w ≡ go w
   unfolding foundTurn given foundAt
   turn-idle i w e = rw e refl
 
-  turn-met : (i : ℕ) (w : Work) → foundAt t sought (w .tabs) i ≡ true
+  turn-met : (i : ℕ) (w : Work) → foundAt s t sought (w .tabs) i ≡ true
       → turn i w ≡ change 16 s t i (givenImage (tableOf s t .columns) g (image t i (w .tabs))) w
   unfolding foundTurn given foundAt
   turn-met i w e = rw e refl
 
   -- row i is the next that is found
-  module _ (n j i : ℕ) (w : Work) (en : n ≡ tableOf s t .rows) (f : FirstFrom (foundAt t sought (w .tabs)) (tableOf s t .rows) j i) where
+  module _ (n j i : ℕ) (w : Work) (en : n ≡ tableOf s t .rows) (f : FirstFrom (foundAt s t sought (w .tabs)) (tableOf s t .rows) j i) where
     pub walk-past : n ≤ i → walkFrom n j w ≡ resultOf Pass w
     unfolding walkFrom
     walk-past p = turns-past turn n j i w (f .low) (omega (arith, f .high, en)) (λ m a b. turn-idle m w (f .skipped m a b)) p

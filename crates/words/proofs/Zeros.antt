@@ -10,7 +10,7 @@ use lib.ListN.{length, getD, drop, drop-of-length-le}
 use lib.Seq.{drop-cons}
 use Rattle.schema.specs.Ranges.{all}
 use Rattle.rules.specs.Lists.{𝟘}
-use Rattle.rules.specs.Values.{sameValue, allZero}
+use Rattle.rules.specs.Values.{sameWord, allZero}
 use Rattle.bridge.proofs.Tests.{all-yes, all-no}
 
 module _ (ws : List ℤ) (i : ℕ) where
@@ -19,10 +19,10 @@ module _ (ws : List ℤ) (i : ℕ) where
   zero-none h = rw (drop-of-length-le ws h) refl
 
   module _ (h : i < length ws) where
-    pub zero-stop : sameValue 𝟘 (getD ws i 𝟘) ≡ false → allZero (drop i ws) ≡ false
+    pub zero-stop : sameWord 𝟘 (getD ws i 𝟘) ≡ false → allZero (drop i ws) ≡ false
     unfolding allZero
-    zero-stop e = ap (all (sameValue 𝟘)) (drop-cons ws i 𝟘 h) ∙ all-no (sameValue 𝟘) (getD ws i 𝟘) (drop (suc i) ws) e
+    zero-stop e = ap (all (sameWord 𝟘)) (drop-cons ws i 𝟘 h) ∙ all-no (sameWord 𝟘) (getD ws i 𝟘) (drop (suc i) ws) e
 
-    pub zero-go : sameValue 𝟘 (getD ws i 𝟘) ≡ true → allZero (drop i ws) ≡ allZero (drop (i + 1) ws)
+    pub zero-go : sameWord 𝟘 (getD ws i 𝟘) ≡ true → allZero (drop i ws) ≡ allZero (drop (i + 1) ws)
     unfolding allZero
-    zero-go e = rw (add-one i) (ap (all (sameValue 𝟘)) (drop-cons ws i 𝟘 h) ∙ all-yes (sameValue 𝟘) (getD ws i 𝟘) (drop (suc i) ws) e)
+    zero-go e = rw (add-one i) (ap (all (sameWord 𝟘)) (drop-cons ws i 𝟘 h) ∙ all-yes (sameWord 𝟘) (getD ws i 𝟘) (drop (suc i) ws) e)

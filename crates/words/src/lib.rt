@@ -6,7 +6,7 @@ ghost use lib.IntN.{pos};
 ghost use lib.ListN.{length, getD, take, drop, replicate};
 ghost use lib.Seq.{sets};
 ghost use Rattle.rules.specs.Lists.{padded};
-ghost use Rattle.rules.specs.Values.{natOf, natural, inRange, sameValue, allZero};
+ghost use Rattle.rules.specs.Values.{natOf, natural, inRange, sameWord, allZero};
 
 // A word as a number; 0 where it is negative.
 pub fn nat_of(w: i64) -> usize
@@ -28,7 +28,7 @@ pub fn word_of(n: usize) -> i64
 
 // Whether two words are the same number.
 pub fn same_word(a: i64, b: i64) -> bool
-    ensures { λ r. ⌜ r ≡ sameValue a b ⌝ }
+    ensures { λ r. ⌜ r ≡ sameWord a b ⌝ }
 {
     a == b
 }
@@ -59,7 +59,7 @@ pub fn is_natural_at(area: &[i64], i: usize) -> bool
 // Whether the word at i is 0.
 pub fn is_zero_at(area: &[i64], i: usize) -> bool
     requires { ⌜ i < length (now area) ⌝ }
-    ensures { λ r. ⌜ r ≡ sameValue (pos 0) (getD (now (area .entry)) i (pos 0)) ⌝ }
+    ensures { λ r. ⌜ r ≡ sameWord (pos 0) (getD (now (area .entry)) i (pos 0)) ⌝ }
 {
     same_word(0, area[i])
 }

@@ -3,7 +3,7 @@ use Prim.Native.Nat.{_^_}
 use borrow.Author.Needs.{needs}
 use lib.Dec.{ltb}
 use lib.ListN.{drop}
-use Rattle.rules.specs.Values.{sameValues}
+use Rattle.rules.specs.Values.{sameWords}
 use Rattle.rules.specs.Rows.{held}
 use Rattle.rules.specs.Calls.{rowFits}
 use Rattle.bridge.proofs.Tests.{and-same}
@@ -37,7 +37,7 @@ returns c =
     let n = c .before .before .before .before .columns .ensures .0 in
     and-same
     (and-same (c .before .before .is-mask .ensures ∙ ap₂ (λ m n. ltb m (2 ^ n)) m n) (c .before .all-zero-from .ensures ∙ past-columns ws n))
-    (c .values-fit .ensures ∙ ap (λ m. sameValues (drop 4 ws) (held m 0 (drop 4 ws))) m)
+    (c .values-fit .ensures ∙ ap (λ m. sameWords (drop 4 ws) (held m 0 (drop 4 ws))) m)
 
 pub row-fits-spec : {M : Type 1} → statement M
 row-fits-spec =

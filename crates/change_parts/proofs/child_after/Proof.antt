@@ -42,7 +42,7 @@ image-at-requires c κs =
 child-image-requires : tie.Need-child-image-requires
 child-image-requires c κs =
     let f = c .before .before .before .before .before .before .before .before .before .pre .1 in
-    (f .columns, f .table-is)
+    (f .columns .columns, f .table-is)
 
 returns-2 : tie.Need-returns-2
 returns-2 c =

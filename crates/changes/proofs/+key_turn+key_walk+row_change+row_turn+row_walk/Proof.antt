@@ -49,6 +49,7 @@ use Rattle.table_keys.proofs.keys_of.Reads as keys-of-reads
 use Rattle.tally.proofs.write_tallied.Reads as write-tallied-reads
 use Rattle.changes.proofs.+key_turn+key_walk+row_change+row_turn+row_walk.{statement}
 use Rattle.changes.proofs.+key_turn+key_walk+row_change+row_turn+row_walk.Tie.{close}
+use Rattle.fields.proofs.parent.Reads as parent-reads
 
 abbrev μ-key-turn : Measures 3 key-turn-kinds.ps ℕ
 μ-key-turn κs a = 5 * a .1 .1 .1 .1 .1 .1 .1 .1 .0 + 3
@@ -104,6 +105,8 @@ row-walk-below t =
 key-turn-bit-of-requires : (t : ℕ) → key-turn-lts.Need-bit-of-requires (
   bit-of-reads.Asked,
   bit-of-reads.Learnt,
+  parent-reads.Asked,
+  parent-reads.Learnt,
   fires-reads.Asked,
   fires-reads.Learnt,
   followers-of-reads.Asked,
@@ -116,6 +119,8 @@ key-turn-bit-of-requires t c κs = omega (arith, accepted-valid _ (c .before .pr
 key-turn-returns : (t : ℕ) → key-turn-lts.Need-returns (
   bit-of-reads.Asked,
   bit-of-reads.Learnt,
+  parent-reads.Asked,
+  parent-reads.Learnt,
   fires-reads.Asked,
   fires-reads.Learnt,
   followers-of-reads.Asked,
@@ -128,9 +133,41 @@ key-turn-returns t c =
     let miss = not-whole (s .pre .1 .1 .0) (s .args .k) (s .pre .1 .1 .1) (c .before .bit-of .ensures) (c .if1 .taken) in
     (law.key-off _ _ _ _ _ _ _ (law.not-whole-still _ _ _ _ miss), follows-refl (s .pre .1 .0 .ready .fit))
 
+key-turn-parent-requires : (t : ℕ) → key-turn-lts.Need-parent-requires (
+  bit-of-reads.Asked,
+  bit-of-reads.Learnt,
+  parent-reads.Asked,
+  parent-reads.Learnt,
+  fires-reads.Asked,
+  fires-reads.Learnt,
+  followers-of-reads.Asked,
+  followers-of-reads.Learnt,
+  row-walk-below t,
+  row-walk.Post,
+) (key-turn-at t) key-turn.Post
+key-turn-parent-requires t c κs = search needs
+
+key-turn-returns-2 : (t : ℕ) → key-turn-lts.Need-returns-2 (
+  bit-of-reads.Asked,
+  bit-of-reads.Learnt,
+  parent-reads.Asked,
+  parent-reads.Learnt,
+  fires-reads.Asked,
+  fires-reads.Learnt,
+  followers-of-reads.Asked,
+  followers-of-reads.Learnt,
+  row-walk-below t,
+  row-walk.Post,
+) (key-turn-at t) key-turn.Post
+key-turn-returns-2 t c =
+    let s = c .before .before .before .before .before in
+    (law.key-off _ _ _ _ _ _ _ (law.not-parent-still _ _ _ _ (λ e. c .if2 .taken (c .before .parent .ensures ∙ e))), follows-refl (s .pre .1 .0 .ready .fit))
+
 key-turn-fires-requires : (t : ℕ) → key-turn-lts.Need-fires-requires (
   bit-of-reads.Asked,
   bit-of-reads.Learnt,
+  parent-reads.Asked,
+  parent-reads.Learnt,
   fires-reads.Asked,
   fires-reads.Learnt,
   followers-of-reads.Asked,
@@ -139,12 +176,19 @@ key-turn-fires-requires : (t : ℕ) → key-turn-lts.Need-fires-requires (
   row-walk.Post,
 ) (key-turn-at t) key-turn.Post
 key-turn-fires-requires t c κs =
-    let s = c .before .before .before in
-    (s .pre .1 .0 .ready .accepted, (s .pre .1 .1 .1, in-whole (s .pre .1 .1 .0) (s .args .k) (s .pre .1 .1 .1) (c .before .bit-of .ensures) (c .if1 .left)))
+    let s = c .before .before .before .before .before in
+    record {
+      accepted = s .pre .1 .0 .ready .accepted;
+      key = s .pre .1 .1 .1;
+      whole = in-whole (s .pre .1 .1 .0) (s .args .k) (s .pre .1 .1 .1) (c .before .before .before .bit-of .ensures) (c .before .before .if1 .left);
+      parent-is = sym (c .before .parent .ensures) ∙ c .if2 .left;
+    }
 
-key-turn-returns-2 : (t : ℕ) → key-turn-lts.Need-returns-2 (
+key-turn-returns-3 : (t : ℕ) → key-turn-lts.Need-returns-3 (
   bit-of-reads.Asked,
   bit-of-reads.Learnt,
+  parent-reads.Asked,
+  parent-reads.Learnt,
   fires-reads.Asked,
   fires-reads.Learnt,
   followers-of-reads.Asked,
@@ -152,11 +196,13 @@ key-turn-returns-2 : (t : ℕ) → key-turn-lts.Need-returns-2 (
   row-walk-below t,
   row-walk.Post,
 ) (key-turn-at t) key-turn.Post
-key-turn-returns-2 t c = (law.key-off _ _ _ _ _ _ _ (sym (c .before .fires .ensures) ∙ not-true _ (c .if2 .taken)), follows-refl (c .before .before .before .before .before .pre .1 .0 .ready .fit))
+key-turn-returns-3 t c = (law.key-off _ _ _ _ _ _ _ (sym (c .before .fires .ensures) ∙ not-true _ (c .if3 .taken)), follows-refl (c .before .before .before .before .before .before .before .pre .1 .0 .ready .fit))
 
 key-turn-followers-of-requires : (t : ℕ) → key-turn-lts.Need-followers-of-requires (
   bit-of-reads.Asked,
   bit-of-reads.Learnt,
+  parent-reads.Asked,
+  parent-reads.Learnt,
   fires-reads.Asked,
   fires-reads.Learnt,
   followers-of-reads.Asked,
@@ -165,14 +211,16 @@ key-turn-followers-of-requires : (t : ℕ) → key-turn-lts.Need-followers-of-re
   row-walk.Post,
 ) (key-turn-at t) key-turn.Post
 key-turn-followers-of-requires t c κs =
-    let s = c .before .before .before .before .before in
+    let s = c .before .before .before .before .before .before .before in
     let sc = schemaOf (s .args .schema .now) in
-    let whole = in-whole (s .pre .1 .1 .0) (s .args .k) (s .pre .1 .1 .1) (c .before .before .before .bit-of .ensures) (c .before .before .if1 .left) in
-    ((s .pre .1 .0 .ready .accepted, (s .pre .1 .1 .1, whole)), law.old-full (change 0 sc) sc _ _ _ _ (workOf sc (s .args .area .now)) (sym (c .before .fires .ensures) ∙ not-false _ (c .if2 .left)))
+    let whole = in-whole (s .pre .1 .1 .0) (s .args .k) (s .pre .1 .1 .1) (c .before .before .before .before .before .bit-of .ensures) (c .before .before .before .before .if1 .left) in
+    ((s .pre .1 .0 .ready .accepted, (s .pre .1 .1 .1, whole)), law.old-full (change 0 sc) sc _ _ _ _ (workOf sc (s .args .area .now)) (sym (c .before .fires .ensures) ∙ not-false _ (c .if3 .left)))
 
 key-turn-row-walk-requires : (t : ℕ) → key-turn-lts.Need-row-walk-requires (
   bit-of-reads.Asked,
   bit-of-reads.Learnt,
+  parent-reads.Asked,
+  parent-reads.Learnt,
   fires-reads.Asked,
   fires-reads.Learnt,
   followers-of-reads.Asked,
@@ -180,11 +228,13 @@ key-turn-row-walk-requires : (t : ℕ) → key-turn-lts.Need-row-walk-requires (
   row-walk-below t,
   row-walk.Post,
 ) (key-turn-at t) key-turn.Post
-key-turn-row-walk-requires t c κs = (search needs, (c .before .before .before .before .before .before .before .before .pre .1 .0, c .before .before .followers-of .ensures .0))
+key-turn-row-walk-requires t c κs = (search needs, (c .before .before .before .before .before .before .before .before .before .before .pre .1 .0, c .before .before .followers-of .ensures .0))
 
 key-turn-same-length : (t : ℕ) → key-turn-lts.Need-same-length (
   bit-of-reads.Asked,
   bit-of-reads.Learnt,
+  parent-reads.Asked,
+  parent-reads.Learnt,
   fires-reads.Asked,
   fires-reads.Learnt,
   followers-of-reads.Asked,
@@ -194,9 +244,11 @@ key-turn-same-length : (t : ℕ) → key-turn-lts.Need-same-length (
 ) (key-turn-at t) key-turn.Post
 key-turn-same-length t c = search needs
 
-key-turn-returns-3 : (t : ℕ) → key-turn-lts.Need-returns-3 (
+key-turn-returns-4 : (t : ℕ) → key-turn-lts.Need-returns-4 (
   bit-of-reads.Asked,
   bit-of-reads.Learnt,
+  parent-reads.Asked,
+  parent-reads.Learnt,
   fires-reads.Asked,
   fires-reads.Learnt,
   followers-of-reads.Asked,
@@ -204,7 +256,7 @@ key-turn-returns-3 : (t : ℕ) → key-turn-lts.Need-returns-3 (
   row-walk-below t,
   row-walk.Post,
 ) (key-turn-at t) key-turn.Post
-key-turn-returns-3 t c = (c .before .row-walk .ensures .0 ∙ law.key-on _ _ _ _ _ _ _ (sym (c .before .before .before .before .before .before .fires .ensures) ∙ not-false _ (c .before .before .before .before .before .if2 .left)) (c .before .before .before .before .followers-of .ensures .1), c .before .row-walk .ensures .1)
+key-turn-returns-4 t c = (c .before .row-walk .ensures .0 ∙ law.key-on _ _ _ _ _ _ _ (sym (c .before .before .before .before .before .before .fires .ensures) ∙ not-false _ (c .before .before .before .before .before .if3 .left)) (c .before .before .before .before .followers-of .ensures .1), c .before .row-walk .ensures .1)
 
 abbrev key-walk-Inv-loop : key-walk-lts.InvT-loop
 key-walk-Inv-loop schema area₀ tally₀ whole t old new left n k₀ area tally k = (k ≤ n) × ((length area ≡ length area₀) × (Follows (schemaOf schema) tally₀ area₀ tally area × (actions (change left (schemaOf schema)) (schemaOf schema) new t old ((schemaOf schema) .keys) (workOf (schemaOf schema) area₀) ≡ actions (change left (schemaOf schema)) (schemaOf schema) new t old (drop k ((schemaOf schema) .keys)) (workOf (schemaOf schema) area))))
@@ -841,6 +893,8 @@ pub +key-turn+key-walk+row-change+row-turn+row-walk-spec : {M : Type 1} → stat
     close μ-key-turn μ-key-walk μ-row-change μ-row-turn μ-row-walk (λ t. key-turn-lts.spec (
       bit-of-reads.Asked,
       bit-of-reads.Learnt,
+      parent-reads.Asked,
+      parent-reads.Learnt,
       fires-reads.Asked,
       fires-reads.Learnt,
       followers-of-reads.Asked,
@@ -852,12 +906,14 @@ pub +key-turn+key-walk+row-change+row-turn+row-walk-spec : {M : Type 1} → stat
     key-turn.Post
     (key-turn-bit-of-requires t)
     (key-turn-returns t)
-    (key-turn-fires-requires t)
+    (key-turn-parent-requires t)
     (key-turn-returns-2 t)
+    (key-turn-fires-requires t)
+    (key-turn-returns-3 t)
     (key-turn-followers-of-requires t)
     (key-turn-row-walk-requires t)
     (key-turn-same-length t)
-    (key-turn-returns-3 t))
+    (key-turn-returns-4 t))
     (λ t. key-walk-lts.spec (
       key-count-reads.Asked,
       key-count-reads.Learnt,

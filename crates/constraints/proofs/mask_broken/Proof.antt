@@ -9,7 +9,7 @@ use Rattle.constraints.proofs.mask_broken.Statement.{statement}
 use Rattle.constraints.proofs.mask_broken.Tie as tie
 
 returns : tie.Need-returns
-returns c = mask-none _ _ _ _ (c .if1 .taken)
+returns c = mask-none _ _ _ _ _ (c .if1 .taken)
 
 mask-count-requires : tie.Need-mask-count-requires
 mask-count-requires c κs = search needs
@@ -32,36 +32,43 @@ returns-2 c =
     let k = c .before .before .before .mask-count .ensures .0 in
     let g = c .before .before .mask-columns .ensures in
     let h = sym (c .before .image-full-key .ensures) ∙ not-true _ (c .if2 .taken) in
-    mask-null (s .args .m) cs k g _ _ _ (c .before .before .before .before .if1 .left) h
+    mask-null (s .args .m) cs k g _ _ _ _ (c .before .before .before .before .if1 .left) h
 
-sought-key-requires : tie.Need-sought-key-requires
-sought-key-requires c κs =
+folds-among-requires : tie.Need-folds-among-requires
+folds-among-requires c κs =
     let s = c .before .before .before .before .before in
     let mask-count = c .before .before .before .mask-count in
     let mask-columns = c .before .before .mask-columns in
+    widen (s .pre .0 .0 .narrow) (mask-array (s .args .m) (mask-columns .result) (mask-count .ensures .0) (mask-columns .ensures) (search needs) (mask-count .ensures .1) (s .pre .1 .0))
+
+sought-key-requires : tie.Need-sought-key-requires
+sought-key-requires c κs =
+    let s = c .before .before .before .before .before .before in
+    let mask-count = c .before .before .before .before .mask-count in
+    let mask-columns = c .before .before .before .mask-columns in
     let columns = mask-array (s .args .m) (mask-columns .result) (mask-count .ensures .0) (mask-columns .ensures) (search needs) (mask-count .ensures .1) (s .pre .1 .0) in
-    (widen (s .pre .0 .0 .narrow) columns, sym (c .before .image-full-key .ensures) ∙ not-false _ (c .if2 .left))
+    (widen (s .pre .0 .0 .narrow) columns, sym (c .before .before .image-full-key .ensures) ∙ not-false _ (c .before .if2 .left))
 
 other-with-key-requires : tie.Need-other-with-key-requires
 other-with-key-requires c κs =
-    let s = c .before .before .before .before .before .before in
-    let if1 = c .before .before .before .before .before .if1 in
-    let mask-count = c .before .before .before .before .mask-count in
-    let mask-columns = c .before .before .before .mask-columns in
+    let s = c .before .before .before .before .before .before .before in
+    let if1 = c .before .before .before .before .before .before .if1 in
+    let mask-count = c .before .before .before .before .before .mask-count in
+    let mask-columns = c .before .before .before .before .mask-columns in
     let columns = mask-array (s .args .m) (mask-columns .result) (mask-count .ensures .0) (mask-columns .ensures) (search needs) (mask-count .ensures .1) (s .pre .1 .0) in
     (s .pre .0, sought-ready (c .sought-key .ensures) (mask-some (s .args .m) (s .pre .1 .1) (if1 .left) (mask-count .ensures .0)) columns)
 
 returns-3 : tie.Need-returns-3
 returns-3 c =
-    let s = c .before .before .before .before .before .before .before in
-    let if1 = c .before .before .before .before .before .before .if1 in
-    let mask-count = c .before .before .before .before .before .mask-count in
-    let mask-columns = c .before .before .before .before .mask-columns in
-    let full = sym (c .before .before .before .image-full-key .ensures) ∙ not-false _ (c .before .before .if2 .left) in
+    let s = c .before .before .before .before .before .before .before .before in
+    let if1 = c .before .before .before .before .before .before .before .if1 in
+    let mask-count = c .before .before .before .before .before .before .mask-count in
+    let mask-columns = c .before .before .before .before .before .mask-columns in
+    let full = sym (c .before .before .before .before .image-full-key .ensures) ∙ not-false _ (c .before .before .before .if2 .left) in
     c .other-with-key .ensures
     ∙ any-sought (c .before .sought-key .ensures) _
-    ∙ twice-except _ _ _ _
-    ∙ mask-full (s .args .m) (mask-columns .result) (mask-count .ensures .0) (mask-columns .ensures) _ _ _ (if1 .left) full
+    ∙ twice-except _ _ _ _ _
+    ∙ mask-full (s .args .m) (mask-columns .result) (mask-count .ensures .0) (mask-columns .ensures) _ _ _ _ (if1 .left) full (c .before .before .folds-among .ensures)
 
 pub mask-broken-spec : {M : Type 1} → statement M
 mask-broken-spec =
@@ -72,6 +79,7 @@ mask-broken-spec =
     mask-columns-requires
     image-full-key-requires
     returns-2
+    folds-among-requires
     sought-key-requires
     other-with-key-requires
     returns-3)

@@ -13,7 +13,7 @@ use Rattle.found.proofs.first_null.Statement.{statement}
 use Rattle.found.proofs.first_null.Tie as tie
 
 abbrev Inv-loop : tie.InvT-loop
-Inv-loop area table sought from start w rows c j₀ j = (from ≤ j) × ((i : ℕ) → from ≤ i → i < j → foundRow sought (getD (rowsIn area table) i []) ≡ false)
+Inv-loop area table sought from start w rows c j₀ j = (from ≤ j) × ((i : ℕ) → from ≤ i → i < j → foundRow 0 sought (getD (rowsIn area table) i []) ≡ false)
 
 abbrev μ-loop : tie.MeasureT-loop
 μ-loop area table sought from start w rows c j₀ j = rows - j
@@ -50,7 +50,7 @@ returns : tie.Need-returns Inv-loop μ-loop
 returns c =
     let s = c .before .before .before .before .before in
     let l = c .before .before .before .loop in
-    first-stop (l .j) (l .inv .0) (c .before .before .loop-test .taken) (l .inv .1) (tested (foundRow (s .args .sought)) (s .args .area .now) (s .args .table) (l .j) (c .before .before .loop-test .taken) (c .before .is-found-null .ensures) (c .if1 .taken))
+    first-stop (l .j) (l .inv .0) (c .before .before .loop-test .taken) (l .inv .1) (tested (foundRow 0 (s .args .sought)) (s .args .area .now) (s .args .table) (l .j) (c .before .before .loop-test .taken) (c .before .is-found-null .ensures) (c .if1 .taken))
 
 add-skip-filled : tie.Need-add-skip-filled Inv-loop μ-loop
 add-skip-filled c = omega (arith, c .before .before .before .before .before .pre .0 .0 .few, c .before .before .loop-test .taken)
@@ -67,7 +67,7 @@ loop-again : tie.Need-loop-again Inv-loop μ-loop
 loop-again c =
     let s = c .before .before .before .before .before .before in
     let l = c .before .before .before .before .loop in
-    let miss = tested (foundRow (s .args .sought)) (s .args .area .now) (s .args .table) (l .j) (c .before .before .before .loop-test .taken) (c .before .before .is-found-null .ensures) (c .before .if1 .left) in
+    let miss = tested (foundRow 0 (s .args .sought)) (s .args .area .now) (s .args .table) (l .j) (c .before .before .before .loop-test .taken) (c .before .before .is-found-null .ensures) (c .before .if1 .left) in
     let past = filled-passed (s .args .sought) (s .pre .1 .1) (c .skip-filled2 .ensures) .none in
     (omega (arith, l .inv .0, c .skip-filled2 .ensures .low), none-more (l .j) _ (l .inv .1) miss past)
 

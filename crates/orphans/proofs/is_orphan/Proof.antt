@@ -27,8 +27,8 @@ is-orphan-among-requires c κs = search needs
 
 returns : tie.Need-returns
 returns c =
-    let image-at = c .before .before .before .before .image-at in
-    let s = c .before .before .before .before .before .before .before .before in
+    let image-at = c .before .before .before .image-at in
+    let s = c .before .before .before .before .before .before .before in
     child-judged _ _ _ (s .pre .0) _ (s .pre .1 .0) (s .args .j) (s .pre .1 .1) (c .is-orphan-among .ensures) (image-at .ensures)
 
 pub is-orphan-spec : {M : Type 1} → statement M

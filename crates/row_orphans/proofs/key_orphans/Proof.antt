@@ -5,7 +5,6 @@ use Rattle.schema.proofs.SchemaLaws.{accepted-valid}
 use Rattle.schema.specs.Records.{keyOf}
 use Rattle.schema.specs.Fields.{schemaOf}
 use Rattle.bridge.specs.Fit.{workOf}
-use Rattle.rows.proofs.TableLaws.{key-columns}
 use Rattle.table_keys.proofs.TouchLaws.{in-whole, not-whole}
 use Rattle.row_orphans.specs.RowOrphans.{rowOrphans}
 use Rattle.row_orphans.proofs.CountLaws.{others-none}
@@ -24,28 +23,15 @@ returns c =
     let miss = not-whole (s .pre .1 .0) (a .k) (s .pre .1 .1) (c .before .bit-of .ensures) (c .if1 .taken) in
     (others-none (a .t) (a .r) (a .x) (a .y) (workOf (schemaOf (a .schema .now)) (a .area .now) .tabs) k miss, omega arith)
 
-width-requires : tie.Need-width-requires
-width-requires c κs = search needs
-
-child-columns-requires : tie.Need-child-columns-requires
-child-columns-requires c κs = search needs
-
-parent-columns-requires : tie.Need-parent-columns-requires
-parent-columns-requires c κs =
-    let s = c .before .before .before .before .before in
-    (s .pre .0 .ready .accepted, (s .pre .1 .1, in-whole (s .pre .1 .0) (s .args .k) (s .pre .1 .1) (c .before .before .before .bit-of .ensures) (c .before .before .if1 .left)))
-
 own-orphan-requires : tie.Need-own-orphan-requires
 own-orphan-requires c κs =
-    let s = c .before .before .before .before .before .before in
-    let read = key-columns (s .args .schema .now) (s .pre .0 .ready .accepted) (s .args .k) (s .pre .1 .1) (c .before .before .width .ensures .0) (in-whole (s .pre .1 .0) (s .args .k) (s .pre .1 .1) (c .before .before .before .before .bit-of .ensures) (c .before .before .before .if1 .left)) in
-    (s .pre .0 .ready, read (c .parent-columns .result) (c .parent-columns .ensures) (c .before .child-columns .result) (c .before .child-columns .ensures))
+    let s = c .before .before .before in
+    (s .pre .0 .ready, (s .pre .1 .1, in-whole (s .pre .1 .0) (s .args .k) (s .pre .1 .1) (c .before .bit-of .ensures) (c .if1 .left)))
 
 stranded-rows-requires : tie.Need-stranded-rows-requires
 stranded-rows-requires c κs =
-    let s = c .before .before .before .before .before .before .before in
-    let read = key-columns (s .args .schema .now) (s .pre .0 .ready .accepted) (s .args .k) (s .pre .1 .1) (c .before .before .before .width .ensures .0) (in-whole (s .pre .1 .0) (s .args .k) (s .pre .1 .1) (c .before .before .before .before .before .bit-of .ensures) (c .before .before .before .before .if1 .left)) in
-    (s .pre .0, read (c .before .parent-columns .result) (c .before .parent-columns .ensures) (c .before .before .child-columns .result) (c .before .before .child-columns .ensures))
+    let s = c .before .before .before .before in
+    (s .pre .0, (s .pre .1 .1, in-whole (s .pre .1 .0) (s .args .k) (s .pre .1 .1) (c .before .before .bit-of .ensures) (c .before .if1 .left)))
 
 add-result : tie.Need-add-result
 add-result c = search needs
@@ -63,9 +49,6 @@ key-orphans-spec =
     (tie.spec
     bit-of-requires
     returns
-    width-requires
-    child-columns-requires
-    parent-columns-requires
     own-orphan-requires
     stranded-rows-requires
     add-result

@@ -1,17 +1,11 @@
 use mathlib.Core.Path.{sym, _∙_}
-use borrow.Author.Needs.{needs}
 use Rattle.schema.specs.Records.{keyOf}
 use Rattle.schema.specs.Fields.{schemaOf}
-use Rattle.rows.proofs.TableLaws.{parent-read, parent-nine}
-use Rattle.rows.proofs.ActionLaws.{fires-other, fires-rest}
+use Rattle.rows.proofs.TableLaws.{parent-table, parent-nine, parent-columns, parent-folds}
+use Rattle.rows.proofs.ActionLaws.{fires-rest}
+use borrow.Author.Needs.{needs}
 use Rattle.rows.proofs.fires.Statement.{statement}
 use Rattle.rows.proofs.fires.Tie as tie
-
-parent-requires : tie.Need-parent-requires
-parent-requires c κs = search needs
-
-returns : tie.Need-returns
-returns c = fires-other _ _ _ _ (λ e. c .if1 .taken (c .before .parent .ensures ∙ e))
 
 width-requires : tie.Need-width-requires
 width-requires c κs = search needs
@@ -19,25 +13,30 @@ width-requires c κs = search needs
 parent-columns-requires : tie.Need-parent-columns-requires
 parent-columns-requires c κs = search needs
 
+folded-requires : tie.Need-folded-requires
+folded-requires c κs =
+    let s = c .before .before .before in
+    (s .pre .accepted, rw (← s .pre .parent-is) (parent-table (s .args .schema .now) (s .pre .accepted) (s .args .k) (s .pre .key) (s .pre .whole)))
+
 key-changes-requires : tie.Need-key-changes-requires
 key-changes-requires c κs =
-    let s = c .before .before .before .before .before in
-    parent-nine (s .args .schema .now) (s .pre .0) (s .args .k) (s .pre .1 .0) (c .before .width .ensures .0) (s .pre .1 .1) (c .parent-columns .result) (c .parent-columns .ensures)
+    let s = c .before .before .before .before in
+    parent-nine (s .args .schema .now) (s .pre .accepted) (s .args .k) (s .pre .key) (c .before .before .width .ensures .0) (s .pre .whole) (c .before .parent-columns .result) (c .before .parent-columns .ensures)
 
-returns-2 : tie.Need-returns-2
-returns-2 c =
-    let s = c .before .before .before .before .before .before in
-    let K = keyOf (schemaOf (s .args .schema .now)) (s .args .k) in
-    let e = parent-read (s .args .schema .now) (s .pre .0) (s .args .k) (s .pre .1 .0) (c .before .before .width .ensures .0) (s .pre .1 .1) (c .before .parent-columns .result) (c .before .parent-columns .ensures) in
-    c .key-changes .ensures ∙ fires-rest _ _ _ K (sym (c .before .before .before .before .parent .ensures) ∙ c .before .before .before .if1 .left) (s .pre .1 .1) e
+returns : tie.Need-returns
+returns c =
+    let s = c .before .before .before .before .before in
+    let a = s .args in
+    let p = s .pre in
+    let ps = c .before .before .parent-columns in
+    let n = c .before .before .before .width .ensures .0 in
+    let K = keyOf (schemaOf (a .schema .now)) (a .k) in
+    let columns = parent-columns (a .schema .now) (p .accepted) (a .k) (p .key) n (p .whole) (ps .result) (ps .ensures) in
+    c .key-changes .ensures
+    ∙ fires-rest (a .new) (a .t) (a .old) K (p .parent-is) (p .whole)
+    (parent-folds (a .schema .now) (a .k) _ (ps .result) columns (sym (p .parent-is)) (c .before .folded .ensures .0)) (columns .parent-is)
 
 pub fires-spec : {M : Type 1} → statement M
 fires-spec =
     tie.close
-    (tie.spec
-    parent-requires
-    returns
-    width-requires
-    parent-columns-requires
-    key-changes-requires
-    returns-2)
+    (tie.spec width-requires parent-columns-requires folded-requires key-changes-requires returns)

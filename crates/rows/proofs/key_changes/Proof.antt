@@ -1,12 +1,10 @@
 use mathlib.Core.Path.{_≡_, sym, ap, _∙_}
 use mathlib.Core.Bool.{true, false, not}
-use borrow.Author.Needs.{needs}
 use borrow.Author.Tests.{not-true, not-false}
 use lib.ListN.{take}
 use Rattle.rules.specs.Rows.{live}
 use Rattle.rules.specs.Keys.{fullKey}
-use Rattle.rows.specs.Sought.{withKey}
-use Rattle.rows.proofs.SoughtLaws.{sought-in, live-sought}
+use borrow.Author.Needs.{needs}
 use Rattle.rows.proofs.key_changes.Statement.{statement}
 use Rattle.rows.proofs.key_changes.Tie as tie
 
@@ -29,21 +27,15 @@ returns-2 c =
     let gone : live (a .new) ≡ false = sym (c .before .image-live .ensures) ∙ not-true _ (c .if2 .taken) in
     rw (full, gone)
 
-sought-key-requires : tie.Need-sought-key-requires
-sought-key-requires c κs =
-    (c .before .before .before .before .pre, sym (c .before .before .before .image-full-key .ensures) ∙ not-false _ (c .before .before .if1 .left))
-
-image-holds-key-requires : tie.Need-image-holds-key-requires
-image-holds-key-requires c κs = sought-in (c .before .before .before .before .before .pre) (c .sought-key .ensures)
+same-key-requires : tie.Need-same-key-requires
+same-key-requires c κs = search needs
 
 returns-3 : tie.Need-returns-3
-unfolding withKey
 returns-3 c =
-    let a = c .before .before .before .before .before .before .args in
-    let full : fullKey (take (a .n) (a .ps)) (a .old) ≡ true = sym (c .before .before .before .before .before .image-full-key .ensures) ∙ not-false _ (c .before .before .before .before .if1 .left) in
-    let lives : live (a .new) ≡ true = sym (c .before .before .before .image-live .ensures) ∙ not-false _ (c .before .before .if2 .left) in
-    let sought = c .before .sought-key in
-    rw full (ap not (c .image-holds-key .ensures ∙ live-sought (a .new) (sought .result) lives ∙ sought .ensures .same (a .new)))
+    let a = c .before .before .before .before .before .args in
+    let full : fullKey (take (a .n) (a .ps)) (a .old) ≡ true = sym (c .before .before .before .before .image-full-key .ensures) ∙ not-false _ (c .before .before .before .if1 .left) in
+    let lives : live (a .new) ≡ true = sym (c .before .before .image-live .ensures) ∙ not-false _ (c .before .if2 .left) in
+    rw (full, lives) (ap not (c .same-key .ensures))
 
 pub key-changes-spec : {M : Type 1} → statement M
 key-changes-spec =
@@ -53,6 +45,5 @@ key-changes-spec =
     returns
     image-live-requires
     returns-2
-    sought-key-requires
-    image-holds-key-requires
+    same-key-requires
     returns-3)

@@ -22,18 +22,18 @@ abbrev μ-loop : tie.MeasureT-loop
 first-words-requires : tie.Need-first-words-requires Inv-loop μ-loop
 first-words-requires c κs =
     let s = c in
-    (s .pre .1 .0, widen-sought (s .pre .0 .0 .narrow) (s .pre .1 .1))
+    (s .pre .1 .0 .0, widen-sought (s .pre .0 .0 .narrow) (s .pre .1 .1))
 
 skip-rows-requires : tie.Need-skip-rows-requires Inv-loop μ-loop
 skip-rows-requires c κs =
     let s = c .before in
-    (s .pre .0 .0, (omega (arith, s .pre .0 .1), words-within (s .args .key) (s .pre .1 .0) (s .pre .1 .1) (c .first-words .ensures)))
+    (s .pre .0 .0, (omega (arith, s .pre .0 .1), words-within (s .args .key) (s .pre .1 .1) (s .pre .1 .0 .0) (s .pre .1 .0 .1) (c .first-words .ensures)))
 
 loop-holds : tie.Need-loop-holds Inv-loop μ-loop
 loop-holds c =
     let first-words = c .before .first-words in
     let s = c .before .before in
-    (c .skip-rows .ensures .low, key-passed (s .args .key) (s .pre .1 .0) (s .pre .1 .1) (first-words .ensures) (c .skip-rows .ensures) .none)
+    (c .skip-rows .ensures .low, key-passed (s .args .key) (s .pre .1 .0 .0) (s .pre .1 .0 .1) (s .pre .1 .1) (first-words .ensures) (c .skip-rows .ensures) .none)
 
 mul-has-composite : tie.Need-mul-has-composite Inv-loop μ-loop
 mul-has-composite c =
@@ -69,7 +69,7 @@ skip-rows-requires-2 c κs =
     let first-words = c .before .before .before .before .before .first-words in
     let loop-test = c .before .before .loop-test in
     let s = c .before .before .before .before .before .before in
-    (s .pre .0 .0, (omega (arith, loop-test .taken), words-within (s .args .key) (s .pre .1 .0) (s .pre .1 .1) (first-words .ensures)))
+    (s .pre .0 .0, (omega (arith, loop-test .taken), words-within (s .args .key) (s .pre .1 .1) (s .pre .1 .0 .0) (s .pre .1 .0 .1) (first-words .ensures)))
 
 loop-less : tie.Need-loop-less Inv-loop μ-loop
 loop-less c = omega (arith, c .skip-rows2 .ensures .low, c .before .before .before .loop-test .taken)
@@ -82,7 +82,7 @@ loop-again c =
     let has-composite = c .before .before .has-composite in
     let s = c .before .before .before .before .before .before .before in
     let miss = tested (hasSought (s .args .key)) (s .args .area .now) (s .args .table) (l .j) (loop-test .taken) (has-composite .ensures) (c .before .if1 .left) in
-    let past = key-passed (s .args .key) (s .pre .1 .0) (s .pre .1 .1) (first-words .ensures) (c .skip-rows2 .ensures) .none in
+    let past = key-passed (s .args .key) (s .pre .1 .0 .0) (s .pre .1 .0 .1) (s .pre .1 .1) (first-words .ensures) (c .skip-rows2 .ensures) .none in
     (omega (arith, l .inv .0, c .skip-rows2 .ensures .low), none-more (l .j) _ (l .inv .1) miss past)
 
 returns-2 : tie.Need-returns-2 Inv-loop μ-loop

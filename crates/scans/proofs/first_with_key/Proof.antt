@@ -1,50 +1,35 @@
-use mathlib.Core.Path.{_∙_, ap}
-use mathlib.Core.Bool.{false}
-use native.Mathlib.Omega.{arith}
-use lib.IntN.{ℤ}
-use lib.ListN.{getD}
-use Rattle.words.proofs.Signed.{back}
-use Rattle.rules.specs.Lists.{𝟘}
-use Rattle.rules.specs.Found.{isFound}
-use Rattle.scans.proofs.FirstLaws.{first-same, one-value}
 use borrow.Author.Needs.{needs}
+use Rattle.rows.proofs.SoughtLaws.{widen-sought}
+use Rattle.rows.proofs.FoldLaws.{folded-ready}
+use Rattle.scans.proofs.FirstLaws.{first-same}
 use Rattle.scans.proofs.first_with_key.Statement.{statement}
 use Rattle.scans.proofs.first_with_key.Tie as tie
 
-element-copy-out-first-with-value : tie.Need-element-copy-out-first-with-value
-element-copy-out-first-with-value c = search needs
+fold-key-requires : tie.Need-fold-key-requires
+fold-key-requires c κs = widen-sought (c .before .before .pre .0 .0 .narrow) (c .before .before .pre .1 .1)
 
-element-copy-out-first-with-value-2 : tie.Need-element-copy-out-first-with-value-2
-element-copy-out-first-with-value-2 c = search needs
-
-first-with-value-requires : tie.Need-first-with-value-requires
-first-with-value-requires c κs =
+first-with-folded-requires : tie.Need-first-with-folded-requires
+first-with-folded-requires c κs =
     let s = c .before .before .before in
-    (s .pre .0, s .pre .1 .1 .columns .within 0 (omega (arith, s .pre .1 .0)))
+    (s .pre .0, folded-ready (c .fold-key .ensures) (s .pre .1 .0) (s .pre .1 .1))
 
 returns : tie.Need-returns
 returns c =
     let s = c .before .before .before .before in
-    let key = s .args .t3 in
-    let v = back (getD (key .vs) 0 𝟘) (c .before .first-with-value-arg2 .given) in
-    first-same (s .args .area .now) (s .args .table)
-    (λ row. ap (λ (z : ℤ). isFound (getD (key .cs) 0 0) false z row) v ∙ one-value key (s .pre .1 .1) (c .before .before .before .if1 .taken) row) (c .first-with-value .ensures)
+    first-same (s .args .area .now) (s .args .table) (c .before .fold-key .ensures .same) (c .first-with-folded .ensures)
 
-first-with-composite-requires : tie.Need-first-with-composite-requires
-first-with-composite-requires c κs =
-    let s = c .before in
-    (s .pre .0, (omega (arith, s .pre .1 .0, c .if1 .left), s .pre .1 .1))
+first-with-plain-requires : tie.Need-first-with-plain-requires
+first-with-plain-requires c κs = search needs
 
 returns-2 : tie.Need-returns-2
-returns-2 c = c .first-with-composite .ensures
+returns-2 c = search needs
 
 pub first-with-key-spec : {M : Type 1} → statement M
 first-with-key-spec =
     tie.close
     (tie.spec
-    element-copy-out-first-with-value
-    element-copy-out-first-with-value-2
-    first-with-value-requires
+    fold-key-requires
+    first-with-folded-requires
     returns
-    first-with-composite-requires
+    first-with-plain-requires
     returns-2)

@@ -8,7 +8,7 @@ use native.Mathlib.Omega.{arith}
 use lib.IntN.{ℤ}
 use lib.ListN.{getD}
 use Rattle.words.proofs.Signed.{back}
-use Rattle.rules.specs.Found.{isFound}
+use Rattle.rows.specs.Sought.{hasValue}
 use Rattle.rows.specs.Standing.{rowsIn}
 use Rattle.rows.proofs.TableLaws.{row-at}
 use Rattle.skips.proofs.SkipLaws.{value-passed}
@@ -18,7 +18,7 @@ use Rattle.scans.proofs.first_with_value.Statement.{statement}
 use Rattle.scans.proofs.first_with_value.Tie as tie
 
 abbrev Inv-loop : tie.InvT-loop
-Inv-loop area table c v from start w rows i₀ i = (from ≤ i) × ((m : ℕ) → from ≤ m → m < i → isFound c false (toZ w64 v) (getD (rowsIn area table) m []) ≡ false)
+Inv-loop area table c v from start w rows i₀ i = (from ≤ i) × ((m : ℕ) → from ≤ m → m < i → hasValue c (toZ w64 v) (getD (rowsIn area table) m []) ≡ false)
 
 abbrev μ-loop : tie.MeasureT-loop
 μ-loop area table c v from start w rows i₀ i = rows - i
@@ -57,8 +57,8 @@ returns c =
     let a = s .args in
     let l = c .before .before .before .loop in
     let loop-test = c .before .before .loop-test in
-    let hit = tested (isFound (a .c) false (toZ w64 (ofZ w64 (a .v)))) (a .area .now) (a .table) (l .i) (loop-test .taken) (c .before .has-value .ensures) (c .if1 .taken) in
-    subst (λ (z : ℤ). FirstRow (isFound (a .c) false z) (a .area .now) (a .table) (a .from) (l .i)) (back _ (s .fits .v .sfits))
+    let hit = tested (hasValue (a .c) (toZ w64 (ofZ w64 (a .v)))) (a .area .now) (a .table) (l .i) (loop-test .taken) (c .before .has-value .ensures) (c .if1 .taken) in
+    subst (λ (z : ℤ). FirstRow (hasValue (a .c) z) (a .area .now) (a .table) (a .from) (l .i)) (back _ (s .fits .v .sfits))
     (first-stop (l .i) (l .inv .0) (loop-test .taken) (l .inv .1) hit)
 
 add-skip-column-2 : tie.Need-add-skip-column-2 Inv-loop μ-loop
@@ -83,7 +83,7 @@ loop-again c =
     let l = c .before .before .before .before .loop in
     let loop-test = c .before .before .before .loop-test in
     let v = toZ w64 (ofZ w64 (a .v)) in
-    let miss = tested (isFound (a .c) false v) (a .area .now) (a .table) (l .i) (loop-test .taken) (c .before .before .has-value .ensures) (c .before .if1 .left) in
+    let miss = tested (hasValue (a .c) v) (a .area .now) (a .table) (l .i) (loop-test .taken) (c .before .before .has-value .ensures) (c .before .if1 .left) in
     let past = value-passed (a .c) v (c .skip-column2 .ensures) .none in
     (omega (arith, l .inv .0, c .skip-column2 .ensures .low), none-more (l .i) _ (l .inv .1) miss past)
 
@@ -92,7 +92,7 @@ returns-2 c =
     let s = c .before .before .before in
     let a = s .args in
     let l = c .before .loop in
-    subst (λ (z : ℤ). FirstRow (isFound (a .c) false z) (a .area .now) (a .table) (a .from) (a .table .count)) (back _ (s .fits .v .sfits))
+    subst (λ (z : ℤ). FirstRow (hasValue (a .c) z) (a .area .now) (a .table) (a .from) (a .table .count)) (back _ (s .fits .v .sfits))
     (first-none (l .i) (s .pre .0 .1) (omega (arith, c .loop-test .left)) (l .inv .1))
 
 pub first-with-value-spec : {M : Type 1} → statement M

@@ -8,7 +8,7 @@ use lib.IntN.{ℤ, pos}
 use lib.ListN.{length, getD, drop}
 use Rattle.schema.specs.Fields.{schemaOf}
 use Rattle.schema.specs.Records.{ForeignKey, Schema, keyOf}
-use Rattle.rules.specs.Values.{sameValue}
+use Rattle.rules.specs.Values.{sameWord}
 use Rattle.rules.specs.Statement.{immediateZero}
 use Rattle.words.proofs.Signed.{back}
 use Rattle.settlement.proofs.SettleLaws as law
@@ -54,8 +54,8 @@ returns c =
     let k : ℕ = loop .k in
     let h : k < length ks = omega (arith, loop .inv .1 .0, loop-test .taken) in
     let l : k < length xs = search needs in
-    let e : (keyOf sc k .deferred || sameValue (pos 0) (getD xs k (pos 0))) ≡ false
-    = ap₂ (λ a b. a || b) (sym (is-deferred .ensures)) (ap (sameValue (pos 0)) (sym (back (getD xs k (pos 0)) (v .given))) ∙ sym (same-word .ensures)) ∙ not-true _ (c .if1 .taken) in
+    let e : (keyOf sc k .deferred || sameWord (pos 0) (getD xs k (pos 0))) ≡ false
+    = ap₂ (λ a b. a || b) (sym (is-deferred .ensures)) (ap (sameWord (pos 0)) (sym (back (getD xs k (pos 0)) (v .given))) ∙ sym (same-word .ensures)) ∙ not-true _ (c .if1 .taken) in
     sym (loop .inv .1 .1 .1 ∙ law.immediate-miss ks xs k h l e)
 
 add-k : tie.Need-add-k Inv-loop μ-loop
@@ -78,8 +78,8 @@ loop-again c =
     let k : ℕ = loop .k in
     let h : k < length ks = omega (arith, loop .inv .1 .0, loop-test .taken) in
     let l : k < length xs = search needs in
-    let e : (keyOf sc k .deferred || sameValue (pos 0) (getD xs k (pos 0))) ≡ true
-    = ap₂ (λ a b. a || b) (sym (is-deferred .ensures)) (ap (sameValue (pos 0)) (sym (back (getD xs k (pos 0)) (v .given))) ∙ sym (same-word .ensures)) ∙ not-false _ (c .if1 .left) in
+    let e : (keyOf sc k .deferred || sameWord (pos 0) (getD xs k (pos 0))) ≡ true
+    = ap₂ (λ a b. a || b) (sym (is-deferred .ensures)) (ap (sameWord (pos 0)) (sym (back (getD xs k (pos 0)) (v .given))) ∙ sym (same-word .ensures)) ∙ not-false _ (c .if1 .left) in
     (search needs, (loop .inv .1 .0, (loop .inv .1 .1 .0, loop .inv .1 .1 .1 ∙ law.immediate-more ks xs k h l e)))
 
 returns-2 : tie.Need-returns-2 Inv-loop μ-loop

@@ -1,5 +1,5 @@
 use mathlib.Core.Path.{_∙_, ap₂}
-use Rattle.rules.specs.Values.{sameValue}
+use Rattle.rules.specs.Values.{sameWord}
 use Rattle.words.proofs.Signed.{back}
 use Rattle.skips.proofs.SkipLaws.{word-is}
 use borrow.Author.Needs.{needs}
@@ -22,7 +22,7 @@ returns : tie.Need-returns
 returns c =
     let s = c .before .before in
     let a = s .args in
-    c .same-word .ensures ∙ ap₂ sameValue (back _ (c .before .same-word-arg .given)) (back _ (s .fits .v .sfits)) ∙ word-is (a .area .now) (a .p) (a .w) (a .c) (a .v) (s .pre .1)
+    c .same-word .ensures ∙ ap₂ sameWord (back _ (c .before .same-word-arg .given)) (back _ (s .fits .v .sfits)) ∙ word-is (a .area .now) (a .p) (a .w) (a .c) (a .v) (s .pre .1)
 
 pub has-word-spec : {M : Type 1} → statement M
 has-word-spec =
