@@ -2,6 +2,7 @@
 //! answers of an engine.
 
 mod broken_keys;
+mod folded;
 mod limits;
 mod lists;
 mod match_full;
@@ -38,7 +39,8 @@ pub struct Case {
 const HEADING: &str = "\
 Each case starts from a fresh area. After a call stands its answer: code,changed,net.
 Code 0 is accepted, any other the number of the refusal; changed is the rows changed;
-net is the change in all kept orphans. c0 is a table's first column.
+net is the change in all kept orphans. c0 is a table's first column. Where columns are folded,
+words are shown as their bytes, the lowest first: as text, or in hexadecimal.
 ";
 
 pub fn all() -> Vec<Case> {
@@ -51,6 +53,7 @@ pub fn all() -> Vec<Case> {
         old_keys::cases(),
         match_full::cases(),
         broken_keys::cases(),
+        folded::cases(),
     ]
     .into_iter()
     .flatten()

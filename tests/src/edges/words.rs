@@ -5,11 +5,12 @@ use crate::model::form;
 use crate::model::rules::Rules;
 use crate::model::schema::{Key, Match, Schema, Table, Value};
 use crate::model::search::Search;
+use crate::sqlite::names;
 
 pub fn schema_lines(schema: &Schema) -> Vec<String> {
     let tables = schema.tables.iter().enumerate();
     let mut lines: Vec<String> = tables
-        .map(|(number, table)| format!("  table {}: {}", number, table_words(table)))
+        .map(|(number, table)| format!("  table {}: {}", number, table_words(schema, table)))
         .collect();
     let keys = schema.keys.iter().enumerate();
     lines.extend(keys.map(|(number, key)| format!("  key {}: {}", number, key_words(key))));
@@ -17,7 +18,7 @@ pub fn schema_lines(schema: &Schema) -> Vec<String> {
     lines
 }
 
-fn table_words(table: &Table) -> String {
+fn table_words(schema: &Schema, table: &Table) -> String {
     let size = format!(
         "{} of {}",
         count(table.rows, "row"),
@@ -28,12 +29,23 @@ fn table_words(table: &Table) -> String {
         .unique
         .iter()
         .map(|key| format!(", unique {}", columns(key)));
+    let marks = table.marks.iter().enumerate();
+    let folded = marks.filter(|(_, mark)| mark.is_some());
+    let folded = folded.map(|(column, _)| format!(", folded c{}", column));
     let defaults = table.defaults.iter().enumerate();
     let defaults = defaults.filter_map(|(column, default)| match default {
         Some(0) => None,
-        _ => Some(format!(", default of c{} {}", column, value(default))),
+        _ => Some(format!(
+            ", default of c{} {}",
+            column,
+            value(schema, default)
+        )),
     });
-    let rest: Vec<String> = not_null.chain(unique).chain(defaults).collect();
+    let rest: Vec<String> = not_null
+        .chain(unique)
+        .chain(folded)
+        .chain(defaults)
+        .collect();
     size + &rest.concat()
 }
 
@@ -68,12 +80,29 @@ fn columns(list: &[usize]) -> String {
     format!("({})", names.join(", "))
 }
 
-fn value(value: &Value) -> String {
-    value.map_or("NULL".into(), |number| number.to_string())
+/// A value. Where columns are folded, a number that is not small is shown as its bytes.
+fn value(schema: &Schema, value: &Value) -> String {
+    match value {
+        None => "NULL".into(),
+        Some(number) if schema.any_folded() && !(0..64).contains(number) => bytes(*number),
+        Some(number) => number.to_string(),
+    }
 }
 
-fn values(row: &[Value]) -> String {
-    let shown: Vec<String> = row.iter().map(value).collect();
+/// The bytes of a word, the lowest first: as text without zeros at the end where they are printable,
+/// else in hexadecimal.
+fn bytes(word: i64) -> String {
+    let name = names::name(word);
+    if name.iter().all(u8::is_ascii_graphic) {
+        return format!("\"{}\"", String::from_utf8_lossy(&name));
+    }
+    let bytes = word.to_le_bytes();
+    let shown: Vec<String> = bytes.iter().map(|byte| format!("{:02X}", byte)).collect();
+    shown.join(" ")
+}
+
+fn values(schema: &Schema, row: &[Value]) -> String {
+    let shown: Vec<String> = row.iter().map(|v| value(schema, v)).collect();
     format!("({})", shown.join(", "))
 }
 
@@ -86,7 +115,7 @@ pub fn call_words(schema: &Schema, call: &[i64]) -> String {
     let given = |column: usize| (call[3] >> column & 1 == 0).then_some(call[4 + column]);
     let row = || {
         let columns = 0..schema.tables[call[1] as usize].columns;
-        values(&columns.map(given).collect::<Vec<Value>>())
+        values(schema, &columns.map(given).collect::<Vec<Value>>())
     };
     match call[0] {
         1 => format!("insert {} {}", place(), row()),
@@ -98,18 +127,18 @@ pub fn call_words(schema: &Schema, call: &[i64]) -> String {
         7 => format!("rollback to level {}", call[1]),
         8 => "rollback".into(),
         9 => "commit".into(),
-        _ => search_words(&Search::read(call)),
+        _ => search_words(schema, &Search::read(call)),
     }
 }
 
-fn search_words(search: &Search) -> String {
+fn search_words(schema: &Schema, search: &Search) -> String {
     let found = match search.sought {
-        Some(number) => format!("where c{} = {}", search.column, number),
         None => format!("where c{} is NULL", search.column),
+        sought => format!("where c{} = {}", search.column, value(schema, &sought)),
     };
     match search.set {
         Some((set, new)) => {
-            let new = value(&new);
+            let new = value(schema, &new);
             format!(
                 "update table {} set c{} = {} {}",
                 search.table, set, new, found
@@ -141,7 +170,8 @@ pub fn row_lines(schema: &Schema, area: &[i64]) -> Vec<String> {
     let rows = tables.flat_map(|t| area.live_rows(t).into_iter().map(move |row| (t, row)));
     let mut lines: Vec<String> = rows
         .map(|(table, (number, row))| {
-            format!("  holds table {} row {} {}", table, number, values(&row))
+            let values = values(schema, &row);
+            format!("  holds table {} row {} {}", table, number, values)
         })
         .collect();
     if lines.is_empty() {

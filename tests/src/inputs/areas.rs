@@ -9,10 +9,7 @@ use crate::random::Random;
 
 /// Rows at random, with kept numbers that fit them or not, with levels and a journal or without.
 pub fn filled(r: &mut Random, ground: &Ground) -> Vec<i64> {
-    let mut area = Area {
-        schema: &ground.schema,
-        words: ground.fresh(),
-    };
+    let mut area = ground.area(&ground.fresh());
     fill_rows(r, ground, &mut area);
     if !r.once_in(3) {
         let counts = orphan_counts(&Rules::of_the_paper(), &area);
@@ -120,10 +117,7 @@ pub fn state(r: &mut Random) -> i64 {
 /// first refers to none. The rows past the chain refer to none, or each to a row of it. Rows stand
 /// in any order. Inserts from the first on lead to it.
 pub fn chained(r: &mut Random, ground: &Ground) -> Vec<i64> {
-    let mut area = Area {
-        schema: &ground.schema,
-        words: ground.fresh(),
-    };
+    let mut area = ground.area(&ground.fresh());
     let table = &ground.schema.tables[0];
     let mut places: Vec<usize> = (0..table.rows).collect();
     match r.between(0, 2) {
@@ -158,10 +152,7 @@ pub fn chained(r: &mut Random, ground: &Ground) -> Vec<i64> {
 
 /// Each row of table 0 refers by its second column to a key that no row has.
 pub fn all_orphans(ground: &Ground) -> Vec<i64> {
-    let mut area = Area {
-        schema: &ground.schema,
-        words: ground.fresh(),
-    };
+    let mut area = ground.area(&ground.fresh());
     for row in 0..ground.schema.tables[0].rows {
         area.put_row(0, row, Some(&vec![Some(row as i64), Some(-1)]));
     }

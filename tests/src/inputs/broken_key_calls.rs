@@ -3,17 +3,14 @@
 use super::calls::{self, new_row, row_call, value};
 use super::grounds::Ground;
 use super::half_filled::empty;
-use super::searches;
+use super::{folded_calls, searches};
 use crate::model::area::Area;
 use crate::model::schema::{Key, Row};
 use crate::random::Random;
 
 /// A call on a table that a broken key touches, or one that leads to actions.
 pub fn any(r: &mut Random, ground: &Ground, words: &[i64]) -> Vec<i64> {
-    let area = Area {
-        schema: &ground.schema,
-        words: words.to_vec(),
-    };
+    let area = ground.area(words);
     let broken: Vec<&Key> = ground.schema.keys.iter().filter(|k| k.broken).collect();
     if broken.is_empty() || r.once_in(3) {
         return calls::leading_to_actions(r, ground, words);
@@ -48,10 +45,7 @@ fn search_above(r: &mut Random, ground: &Ground, area: &Area) -> Vec<i64> {
 
 /// The deletion of the first row of a chain in table 0 that is still there, or one of these calls.
 pub fn on_chain(r: &mut Random, ground: &Ground, words: &[i64]) -> Vec<i64> {
-    let area = Area {
-        schema: &ground.schema,
-        words: words.to_vec(),
-    };
+    let area = ground.area(words);
     let rows = area.live_rows(0).into_iter();
     match rows.min_by_key(|(_, row)| row[0]) {
         Some((number, _)) if r.once_in(2) => row_call(3, 0, number, &[]),
@@ -111,11 +105,11 @@ fn updated(
     row
 }
 
-/// A call that suits the area, now and then one of these.
+/// A call that suits the area, now and then one of these, or one in which spellings matter.
 pub fn now_and_then(r: &mut Random, ground: &Ground, words: &[i64]) -> Vec<i64> {
     if ground.schema.any_broken() && r.once_in(3) {
         any(r, ground, words)
     } else {
-        calls::any(r, ground, words)
+        folded_calls::now_and_then(r, ground, words)
     }
 }

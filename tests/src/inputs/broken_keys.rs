@@ -12,14 +12,15 @@ use crate::schema_bytes::build;
 use crate::schema_bytes::half_drawn::WAYS;
 use crate::schema_bytes::records::{Key, Schema as Records, Table};
 
-/// A schema, most of them with broken keys.
+/// A schema, most of them with broken keys, some with folded columns.
 pub fn ground(r: &mut Random) -> Ground {
-    match r.between(0, 9) {
+    let ground = match r.between(0, 9) {
         0 => herds::whole(r).half_drawn(r),
         1 => half_filled::whole(r).half_drawn(r),
         2 | 3 => grounds::small(r).half_drawn(r),
         _ => yard(r),
-    }
+    };
+    ground.folded_once_in(r, 4)
 }
 
 /// Table 0, horses, is touched by no broken key. Table 1, hooves, refers to it, and so do often
@@ -115,10 +116,7 @@ pub fn deep(r: &mut Random) -> Ground {
 /// it.
 pub fn chained(r: &mut Random, ground: &Ground) -> Vec<i64> {
     let words = areas::chained(r, ground);
-    let mut area = Area {
-        schema: &ground.schema,
-        words,
-    };
+    let mut area = ground.area(&words);
     for row in 0..r.between(1, 4) {
         let chain = area.live_rows(0).into_iter().map(|(_, row)| row[0]);
         let late: Vec<_> = chain.filter(|first| *first >= Some(12)).collect();

@@ -1,7 +1,7 @@
 //! Well-formed calls at random.
 
 use super::grounds::Ground;
-use super::{parents, searches};
+use super::{parents, searches, spellings};
 use crate::model::area::Area;
 use crate::model::schema::{Row, Value};
 use crate::random::Random;
@@ -26,10 +26,7 @@ pub fn plain_call(kind: i64, level: i64) -> Vec<i64> {
 
 /// A call that mostly suits the area: its length is right, its header can be damaged.
 pub fn any(r: &mut Random, ground: &Ground, area: &[i64]) -> Vec<i64> {
-    let area = Area {
-        schema: &ground.schema,
-        words: area.to_vec(),
-    };
+    let area = ground.area(area);
     if r.once_in(4) {
         transaction_call(r, area.words[0])
     } else if r.once_in(3) {
@@ -41,10 +38,7 @@ pub fn any(r: &mut Random, ground: &Ground, area: &[i64]) -> Vec<i64> {
 
 /// As `any`, but mostly a change of a row that others refer to.
 pub fn leading_to_actions(r: &mut Random, ground: &Ground, words: &[i64]) -> Vec<i64> {
-    let area = Area {
-        schema: &ground.schema,
-        words: words.to_vec(),
-    };
+    let area = ground.area(words);
     let call = if r.once_in(4) {
         None
     } else {
@@ -114,7 +108,7 @@ pub fn new_row(r: &mut Random, ground: &Ground, area: &Area, table: usize) -> Ro
         }
         let (_, parent) = &parents[r.between(0, parents.len() - 1)];
         for (&column, value) in key.child_columns.iter().zip(key.parent_key(parent)) {
-            row[column] = value;
+            row[column] = spelled(r, ground, value);
         }
         if r.once_in(8) {
             let column = r.pick(&key.child_columns);
@@ -132,9 +126,28 @@ fn updated(r: &mut Random, ground: &Ground, area: &Area, table: usize, old: Opti
     };
     for _ in 0..r.between(0, 2) {
         let column = r.between(0, row.len() - 1);
-        row[column] = value(r, ground, table, column);
+        row[column] = another(r, ground, (table, column), row[column]);
     }
     row
+}
+
+/// A value of the column in place of an old one: where columns are folded, now and then the old one
+/// in another spelling.
+pub fn another(r: &mut Random, ground: &Ground, place: (usize, usize), old: Value) -> Value {
+    if ground.schema.any_folded() && r.once_in(3) {
+        spellings::other(r, old)
+    } else {
+        value(r, ground, place.0, place.1)
+    }
+}
+
+/// The value as it is, or, where columns are folded, every other time in another spelling.
+pub fn spelled(r: &mut Random, ground: &Ground, value: Value) -> Value {
+    if ground.schema.any_folded() && r.once_in(2) {
+        spellings::other(r, value)
+    } else {
+        value
+    }
 }
 
 /// A value of the column, NULL seldom where that is not let pass.

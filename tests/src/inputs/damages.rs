@@ -57,6 +57,15 @@ pub fn damaged(r: &mut Random, ground: &Ground, area: &[i64]) -> Vec<i64> {
     area
 }
 
+/// A damaged copy, mostly of the states of rows alone.
+pub fn mostly_rows(r: &mut Random, ground: &Ground, area: &[i64]) -> Vec<i64> {
+    if r.once_in(4) {
+        damaged(r, ground, area)
+    } else {
+        damaged_rows(r, ground, area)
+    }
+}
+
 /// The words with the states of some rows damaged: refusal 10 lets them pass.
 pub fn damaged_rows(r: &mut Random, ground: &Ground, area: &[i64]) -> Vec<i64> {
     let mut area = area.to_vec();

@@ -1,6 +1,7 @@
 //! Valid schemas on which calls are tried: small, so that keys collide.
 
-use super::{broken_keys, half_filled};
+use super::{broken_keys, half_filled, spellings};
+use crate::model::area::Area;
 use crate::model::schema::Schema;
 use crate::random::Random;
 use crate::schema_bytes::build::SIMPLE;
@@ -32,6 +33,46 @@ impl Ground {
         vec![0; self.schema.area_words()]
     }
 
+    /// An area of these words.
+    pub fn area(&self, words: &[i64]) -> Area<'_> {
+        Area {
+            schema: &self.schema,
+            words: words.to_vec(),
+        }
+    }
+
+    /// The same with some columns folded, and with words of these bytes, many of which differ in
+    /// nothing but the spelling, in place of its values.
+    pub fn folded(mut self, r: &mut Random, bytes: &[u8]) -> Ground {
+        let words = spellings::domain(r, self.values.len().max(4), bytes);
+        for table in &mut self.records.tables {
+            let (columns, some) = (usize::from(table.columns), r.byte());
+            table.folded = low_bits(columns) & r.pick(&[0, 255, some, some]);
+            for (column, default) in table.defaults.iter_mut().enumerate() {
+                let place = self.values.iter().position(|value| value == default);
+                let there = column < columns && table.default_null >> column & 1 == 0;
+                *default = place.filter(|_| there).map_or(*default, |at| words[at]);
+            }
+        }
+        Ground::new(self.records, words)
+    }
+
+    /// The same with some columns folded, once in so many schemas.
+    pub fn folded_once_in(self, r: &mut Random, turns: usize) -> Ground {
+        if r.once_in(turns) {
+            self.folded(r, spellings::ANY)
+        } else {
+            self
+        }
+    }
+
+    /// The same with no column folded.
+    pub fn unfolded(mut self) -> Ground {
+        let tables = self.records.tables.iter_mut();
+        tables.for_each(|table| table.folded = 0);
+        Ground::new(self.records, self.values)
+    }
+
     /// The same with some foreign keys broken, where none was.
     pub fn half_drawn(mut self, r: &mut Random) -> Ground {
         break_some(&mut self.records, r);
@@ -55,16 +96,16 @@ impl Ground {
     }
 }
 
-/// A schema on which keys collide, some of them broken in some schemas.
+/// A schema on which keys collide: in some of them some are broken, in some columns are folded.
 pub fn collisions(r: &mut Random) -> Ground {
     if r.once_in(8) {
         broken_keys::ground(r)
     } else {
-        whole_collisions(r)
+        whole_collisions(r).folded_once_in(r, 3)
     }
 }
 
-/// A schema on which keys collide, none of them broken.
+/// A schema on which keys collide, none of them broken, and no column folded.
 pub fn whole_collisions(r: &mut Random) -> Ground {
     match r.between(0, 9) {
         0..=2 => tangled(r),
@@ -118,7 +159,8 @@ fn small_table(r: &mut Random, values: &[i64]) -> Table {
         not_null: r.byte() & r.byte() & mask,
         unique,
         default_null,
-        zeros: [0; 7],
+        folded: 0,
+        zeros: [0; 6],
         defaults,
     }
 }
@@ -145,7 +187,8 @@ pub fn chain(r: &mut Random) -> Ground {
         not_null: r.pick(&[0, 0, 1]),
         unique: [low_bits(width), 0, 0, 0],
         default_null: low_bits(width) << 1,
-        zeros: [0; 7],
+        folded: 0,
+        zeros: [0; 6],
         defaults: [0; 8],
     };
     let key = Key {
@@ -191,7 +234,8 @@ fn gathered_table(r: &mut Random, values: &[i64]) -> Table {
         not_null: r.pick(&[0, 0, 2, 4, 6]),
         unique: [1, 0, 0, 0],
         default_null: 2,
-        zeros: [0; 7],
+        folded: 0,
+        zeros: [0; 6],
         defaults,
     }
 }
@@ -245,7 +289,8 @@ fn tangled_table(r: &mut Random, values: &[i64], width: usize, columns: usize) -
         not_null: r.byte() & r.byte() & mask & r.pick(&[0, 0, 255]),
         unique: [low_bits(width), 0, 0, 0],
         default_null,
-        zeros: [0; 7],
+        folded: 0,
+        zeros: [0; 6],
         defaults,
     }
 }
@@ -276,8 +321,10 @@ fn tangled_key(
     }
 }
 
-/// A valid schema of any size, some with broken keys.
+/// A valid schema of any size, some with broken keys, most with folded columns.
 pub fn large(r: &mut Random) -> Ground {
-    let whole = Ground::new(any_valid(r), vec![0, 1, 2, i64::MIN, i64::MAX]);
+    let mut values = spellings::domain(r, 4, spellings::ANY);
+    values.extend([0, 1, 2, i64::MIN, i64::MAX]);
+    let whole = Ground::new(any_valid(r), values);
     whole.half_drawn_once_in(r, 3)
 }

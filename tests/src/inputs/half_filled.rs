@@ -12,9 +12,10 @@ use crate::schema_bytes::build;
 use crate::schema_bytes::records::{Key, Schema as Records, Table};
 use crate::schema_bytes::valid::low_bits;
 
-/// Schemas on which child keys can be half-filled, some with broken keys.
+/// Schemas on which child keys can be half-filled, some with broken keys, some with folded columns.
 pub fn ground(r: &mut Random) -> Ground {
-    whole(r).half_drawn_once_in(r, 10)
+    let ground = whole(r).half_drawn_once_in(r, 10);
+    ground.folded_once_in(r, 4)
 }
 
 /// One or two tables with keys in their first columns. Foreign keys of either match share child

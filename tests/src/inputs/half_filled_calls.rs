@@ -14,10 +14,7 @@ type Numbered = (usize, Row);
 
 /// A call on such a row or on such a parent, or one that leads to actions.
 pub fn any(r: &mut Random, ground: &Ground, words: &[i64]) -> Vec<i64> {
-    let area = Area {
-        schema: &ground.schema,
-        words: words.to_vec(),
-    };
+    let area = ground.area(words);
     let keys = ground.schema.keys.iter();
     let keys: Vec<&Key> = keys.filter(|key| ground.schema.has_parent(key)).collect();
     if keys.is_empty() || r.once_in(3) {
@@ -107,9 +104,10 @@ fn fill_from_parent(r: &mut Random, ground: &Ground, area: &Area, key: &Key, row
 
 /// The live parent rows that are equal to a child row in the filled columns of its key.
 fn alike(area: &Area, key: &Key, child: &Row) -> Vec<Numbered> {
-    let child_key = key.child_key(child);
+    let child_key = key.compared(&key.child_key(child));
+    let parent_key = |row: &Row| key.compared(&key.parent_key(row));
     let mut parents = area.live_rows(key.parent);
-    parents.retain(|(_, row)| equal_where_filled(&child_key, &key.parent_key(row)));
+    parents.retain(|(_, row)| equal_where_filled(&child_key, &parent_key(row)));
     parents
 }
 

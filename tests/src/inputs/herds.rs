@@ -10,9 +10,10 @@ use crate::schema_bytes::build;
 use crate::schema_bytes::records::{Key, Schema as Records, Table};
 use crate::schema_bytes::valid::low_bits;
 
-/// Schemas in which many rows can refer to one, some with broken keys.
+/// Schemas in which many rows can refer to one, some with broken keys, some with folded columns.
 pub fn ground(r: &mut Random) -> Ground {
-    whole(r).half_drawn_once_in(r, 10)
+    let ground = whole(r).half_drawn_once_in(r, 10);
+    ground.folded_once_in(r, 4)
 }
 
 /// One or two tables with a key in their first columns, referred to by their last ones.

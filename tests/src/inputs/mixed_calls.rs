@@ -1,14 +1,16 @@
 //! Calls of all sorts that suit an area.
 
 use super::grounds::Ground;
-use super::{broken_key_calls, half_filled_calls};
+use super::{broken_key_calls, folded_calls, half_filled_calls};
 use crate::random::Random;
 
-/// Any call, now and then one on half-filled keys, and on tables that broken keys touch where there
-/// are such.
+/// Any call, now and then one on half-filled keys, on tables that broken keys touch where there are
+/// such, and one in which spellings matter where columns are folded.
 pub fn any(r: &mut Random, ground: &Ground, words: &[i64]) -> Vec<i64> {
     if ground.schema.any_broken() && r.once_in(2) {
         broken_key_calls::any(r, ground, words)
+    } else if ground.schema.any_folded() && r.once_in(2) {
+        folded_calls::any(r, ground, words)
     } else {
         half_filled_calls::now_and_then(r, ground, words)
     }

@@ -7,7 +7,8 @@ use crate::schema_bytes::records::{Key, Schema as Records, Table};
 use crate::schema_bytes::valid::{key, low_bits, parents};
 use crate::schema_bytes::{build, half_drawn};
 
-/// Up to four tables, some schemas with a broken key. As many values as a table can have rows: some rows have parents, some none.
+/// Up to four tables, some schemas with a broken key, some with folded columns. As many values as a
+/// table can have rows: some rows have parents, some none.
 pub fn many_keys(r: &mut Random) -> Ground {
     let most_rows = if r.once_in(8) {
         1024
@@ -22,7 +23,7 @@ pub fn many_keys(r: &mut Random) -> Ground {
     if !records.keys.is_empty() && r.once_in(4) {
         half_drawn::break_one(&mut records, &r.pick(half_drawn::WAYS), r);
     }
-    Ground::new(records, values)
+    Ground::new(records, values).folded_once_in(r, 3)
 }
 
 /// A table whose first column is a unique key, and sometimes the first two or all are one.

@@ -1,6 +1,6 @@
 //! Changes of rows that others refer to.
 
-use super::calls::{row_call, value};
+use super::calls::{another, row_call};
 use super::grounds::Ground;
 use crate::model::area::Area;
 use crate::model::keys::full;
@@ -28,7 +28,7 @@ fn referred_to(r: &mut Random, area: &Area, key: &Key) -> Option<(usize, Row)> {
     let mut wanted: Vec<Row> = area
         .live_rows(key.child)
         .iter()
-        .map(|(_, row)| key.child_key(row))
+        .map(|(_, row)| key.compared(&key.child_key(row)))
         .collect();
     wanted.retain(full);
     if wanted.is_empty() {
@@ -36,11 +36,11 @@ fn referred_to(r: &mut Random, area: &Area, key: &Key) -> Option<(usize, Row)> {
     }
     let wanted = &wanted[r.between(0, wanted.len() - 1)];
     let mut parents = area.live_rows(key.parent).into_iter();
-    parents.find(|(_, row)| key.parent_key(row) == *wanted)
+    parents.find(|(_, row)| key.compared(&key.parent_key(row)) == *wanted)
 }
 
 /// The row with other values in its key: now and then those that some child row has, else a new one
-/// in one column.
+/// in one column, or the same in another spelling.
 fn with_other_key(r: &mut Random, ground: &Ground, area: &Area, key: &Key, mut row: Row) -> Row {
     let children = area.live_rows(key.child);
     if r.once_in(3) && !children.is_empty() {
@@ -51,6 +51,6 @@ fn with_other_key(r: &mut Random, ground: &Ground, area: &Area, key: &Key, mut r
         return row;
     }
     let column = r.pick(&key.parent_columns);
-    row[column] = value(r, ground, key.parent, column);
+    row[column] = another(r, ground, (key.parent, column), row[column]);
     row
 }

@@ -17,10 +17,7 @@ pub type MakeRow<'a> = &'a dyn Fn(&mut Random, &Area, usize) -> Row;
 /// An area that inserts lead to, most of them in a transaction.
 pub fn reached(r: &mut Random, ground: &Ground, make: MakeRow) -> Vec<i64> {
     let model = Model::of_the_paper();
-    let mut area = Area {
-        schema: &ground.schema,
-        words: ground.fresh(),
-    };
+    let mut area = ground.area(&ground.fresh());
     if !r.once_in(4) {
         let opening = plain_call(r.pick(&[4, 5]), 0);
         model.call(&ground.bytes, &mut area.words, &opening);
@@ -36,10 +33,7 @@ pub fn reached(r: &mut Random, ground: &Ground, make: MakeRow) -> Vec<i64> {
 /// An area with such rows, whatever NOT NULL and unique keys say, some with damaged states, with
 /// levels or without.
 pub fn filled(r: &mut Random, ground: &Ground, make: MakeRow) -> Vec<i64> {
-    let mut area = Area {
-        schema: &ground.schema,
-        words: ground.fresh(),
-    };
+    let mut area = ground.area(&ground.fresh());
     for (table, row) in places(r, ground) {
         let new = make(r, &area, table);
         area.put_row(table, row, Some(&new));

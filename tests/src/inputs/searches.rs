@@ -1,6 +1,6 @@
 //! Calls of kinds 10 and 11 at random: one statement for many rows.
 
-use super::calls::{new_row, value};
+use super::calls::{new_row, spelled, value};
 use super::grounds::Ground;
 use crate::model::area::Area;
 use crate::model::schema::{Row, Value};
@@ -31,7 +31,7 @@ pub fn of_table(
     Search {
         table,
         column,
-        sought,
+        sought: spelled(r, ground, sought),
         set,
     }
 }

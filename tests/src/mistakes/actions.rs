@@ -9,7 +9,7 @@ pub const ALL: &[Mistake] = &[
     (
         "actions after an update that leaves the key equal",
         |rules| {
-            rules.fires = |old, _| full(old);
+            rules.fires = |_, old, _| full(old);
         },
     ),
     ("a composite key with one NULL counted", |rules| {
@@ -33,10 +33,11 @@ pub const ALL: &[Mistake] = &[
         rules.action = |key, _| key.on_update;
     }),
     ("no action where the new key has NULL", |rules| {
-        rules.fires = |old, new| walk::fires(old, new) && new.map_or(true, full);
+        rules.fires = |key, old, new| walk::fires(key, old, new) && new.map_or(true, full);
     }),
     ("NULL taken as equal to NULL", |rules| {
-        rules.fires = |old, new| new != Some(old);
+        rules.fires =
+            |key, old, new| new.map_or(true, |new| key.compared(new) != key.compared(old));
         rules.equal = |one, other| one == other;
     }),
     ("only the first column of a key compared", |rules| {

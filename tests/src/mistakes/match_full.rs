@@ -160,10 +160,11 @@ fn found_half(
         walk.action == action
             && is_match_full(walk.key)
             && half_filled(child_key)
-            && equal_where_filled(child_key, &walk.old_key)
+            && equal_where_filled(child_key, &walk.key.compared(&walk.old_key))
     };
     let live = area.row(walk.key.child, row);
-    let half = live.filter(|child| takes_half(&walk.key.child_key(child)));
+    let child_key = |child: &Row| walk.key.compared(&walk.key.child_key(child));
+    let half = live.filter(|child| takes_half(&child_key(child)));
     let half = half.map(|child| (row, child));
     half.or_else(|| walk::found(rules, area, walk, row))
 }

@@ -4,12 +4,14 @@
 mod actions;
 mod broken_keys;
 mod broken_readings;
+mod folded;
 mod match_full;
 mod old_key;
 mod orphan_list;
 mod other_bytes;
 mod refusals;
 mod searches;
+mod spellings;
 mod transactions;
 mod worthless;
 
@@ -38,13 +40,17 @@ pub fn all() -> Vec<Named> {
         broken_keys::KINDS,
         broken_keys::VALUES,
         broken_readings::ALL,
+        folded::BYTES,
+        folded::MARKS,
+        spellings::ALL,
     ];
     let misread = lists.into_iter().flatten().map(|&(name, change)| {
         let mut model = Model::of_the_paper();
         change(&mut model.rules);
         (name, Box::new(model) as Box<dyn Engine>)
     });
-    let readings = match_full::READINGS.iter().map(other_bytes::engine);
+    let readings = [match_full::READINGS, folded::READINGS];
+    let readings = readings.into_iter().flatten().map(other_bytes::engine);
     let others = [worthless::all(), broken_readings::by_statement()];
     let others = others.into_iter().flatten();
     misread.chain(readings).chain(others).collect()

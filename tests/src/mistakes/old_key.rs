@@ -109,12 +109,15 @@ pub const ALL: &[Mistake] = &[
             rows.flat_map(|row| [row, row]).collect()
         };
     }),
-    ("the rows before gone through again at each turn", |rules| {
-        rules.turns = |area, key, _| {
-            let rows = 0..area.schema.tables[key.child].rows;
-            rows.flat_map(|row| 0..=row).collect()
-        };
-    }),
+    (
+        "eight rows before gone through again at each turn",
+        |rules| {
+            rules.turns = |area, key, _| {
+                let rows = 0..area.schema.tables[key.child].rows;
+                rows.flat_map(|row| row.saturating_sub(8)..=row).collect()
+            };
+        },
+    ),
 ];
 
 /// The child row of this number, if it is live and has this key; without one, the old key.

@@ -2,7 +2,7 @@
 
 use super::Mistake;
 use crate::model::area::Area;
-use crate::model::change::{unique, Change, Check};
+use crate::model::change::{own_mark, unique, Change, Check};
 use crate::model::damage::most_kept;
 use crate::model::rules::Rules;
 
@@ -38,7 +38,7 @@ pub const ALL: &[Mistake] = &[
     }),
     ("NULL in a unique key equals NULL", |rules| {
         set_check(rules, 17, |area, change| {
-            unique(area, change, |one, other| one == other)
+            unique(area, change, own_mark, |one, other| one == other)
         });
     }),
     ("20 judged before 19", |rules| rules.ends.swap(0, 1)),

@@ -1,9 +1,10 @@
 //! A row change with its actions.
 
 use super::area::Area;
+use super::folding::{compared, Mark};
 use super::keys::equal;
 use super::rules::Rules;
-use super::schema::{Key, Row};
+use super::schema::{Key, Row, Table};
 use super::walk::{self, Walk};
 
 /// A row to be written: none is a deletion.
@@ -51,7 +52,7 @@ pub const CHECKS: &[Check] = &[
     (15, |area, _| area.used() < area.schema.room),
     (23, |area, change| uses_no_broken_key(area, change, uses)),
     (16, not_null),
-    (17, |area, change| unique(area, change, equal)),
+    (17, |area, change| unique(area, change, own_mark, equal)),
 ];
 
 /// Whether a change of this kind of a row of the table uses a foreign key: an insert or an update of
@@ -76,15 +77,27 @@ fn not_null(area: &Area, change: &Change) -> bool {
     change.new.as_ref().map_or(true, holds)
 }
 
+/// The mark by which the values of a column are compared in unique keys.
+pub fn own_mark(table: &Table, column: usize) -> Mark {
+    table.marks[column]
+}
+
 /// Whether no other live row has an equal unique key.
-pub fn unique(area: &Area, change: &Change, equal: fn(&Row, &Row) -> bool) -> bool {
+pub fn unique(
+    area: &Area,
+    change: &Change,
+    mark: fn(&Table, usize) -> Mark,
+    equal: fn(&Row, &Row) -> bool,
+) -> bool {
+    let table = &area.schema.tables[change.table];
     let mut others = area.live_rows(change.table);
     others.retain(|(number, _)| *number != change.row);
     let passes = |new: &Row, key: &Vec<usize>| {
-        let of = |row: &Row| -> Row { key.iter().map(|&c| row[c]).collect() };
+        let value = |row: &Row, c: usize| compared(mark(table, c), row[c]);
+        let of = |row: &Row| -> Row { key.iter().map(|&c| value(row, c)).collect() };
         !others.iter().any(|(_, row)| equal(&of(row), &of(new)))
     };
-    let mut keys = area.schema.tables[change.table].unique.iter();
+    let mut keys = table.unique.iter();
     let new = change.new.as_ref();
     new.map_or(true, |new| keys.all(|key| passes(new, key)))
 }

@@ -20,12 +20,13 @@ pub fn half_filled(key: &Row) -> bool {
     !full(key) && !empty(key)
 }
 
-/// Whether two keys are equal. NULL equals nothing.
+/// Whether two keys, both as they are compared, are equal. NULL equals nothing.
 pub fn equal(one: &Row, other: &Row) -> bool {
     full(one) && one == other
 }
 
-/// Whether two keys are equal in every column in which the first is not NULL.
+/// Whether two keys, both as they are compared, are equal in every column in which the first is not
+/// NULL.
 pub fn equal_where_filled(one: &Row, other: &Row) -> bool {
     let mut pairs = one.iter().zip(other);
     pairs.all(|(one, other)| one.is_none() || one == other)
@@ -34,13 +35,14 @@ pub fn equal_where_filled(one: &Row, other: &Row) -> bool {
 /// The child rows that have this key, rising.
 pub fn having(area: &Area, key: &Key, wanted: &Row) -> Vec<usize> {
     let rows = area.live_rows(key.child).into_iter();
-    rows.filter(|(_, row)| equal(&key.child_key(row), wanted))
+    let wanted = key.compared(wanted);
+    rows.filter(|(_, row)| equal(&key.compared(&key.child_key(row)), &wanted))
         .map(|(number, _)| number)
         .collect()
 }
 
-/// Whether a live row with this child key is an orphan, given the keys of the live parent rows. A
-/// broken key has none.
+/// Whether a live row with this child key is an orphan, given the keys of the live parent rows, all
+/// as they are compared. A broken key has none.
 pub fn orphan(key: &Key, child_key: &Row, parent_keys: &BTreeSet<Row>) -> bool {
     !key.broken && unserved(key, child_key, parent_keys)
 }
@@ -57,10 +59,12 @@ pub fn unserved(key: &Key, child_key: &Row, parent_keys: &BTreeSet<Row>) -> bool
 pub fn orphans(rules: &Rules, area: &Area, key: usize) -> Vec<usize> {
     let key = &area.schema.keys[key];
     let parents = area.live_rows(key.parent).into_iter();
-    let parent_keys: BTreeSet<Row> = parents.map(|(_, row)| key.parent_key(&row)).collect();
+    let parent_keys = parents.map(|(_, row)| key.compared(&key.parent_key(&row)));
+    let parent_keys: BTreeSet<Row> = parent_keys.collect();
     let children = area.live_rows(key.child).into_iter();
+    let child_key = |row: &Row| key.compared(&key.child_key(row));
     children
-        .filter(|(_, row)| (rules.orphan)(key, &key.child_key(row), &parent_keys))
+        .filter(|(_, row)| (rules.orphan)(key, &child_key(row), &parent_keys))
         .map(|(number, _)| number)
         .collect()
 }

@@ -3,6 +3,7 @@
 pub mod area;
 pub mod change;
 pub mod damage;
+pub mod folding;
 pub mod form;
 pub mod keys;
 pub mod list;

@@ -27,12 +27,14 @@ pub struct Rules {
     pub checks: Vec<Check>,
     /// The checks at the end of a statement, in order, each for all keys: refusals 19 and 20.
     pub ends: Vec<End>,
-    /// Whether a live row is an orphan: of which key, its child key, the keys of live parent rows.
+    /// Whether a live row is an orphan: of which key, its child key, the keys of live parent rows, all
+    /// as they are compared.
     pub orphan: fn(&Key, &Row, &BTreeSet<Row>) -> bool,
-    /// Whether a child key is the parent key.
+    /// Whether a child key is the parent key, both as they are compared.
     pub equal: fn(&Row, &Row) -> bool,
-    /// Whether actions follow a change of this parent key to that one, or to none by a deletion.
-    pub fires: fn(&Row, Option<&Row>) -> bool,
+    /// Whether actions of a foreign key follow a change of this parent key to that one, both as typed,
+    /// or to none by a deletion.
+    pub fires: fn(&Key, &Row, Option<&Row>) -> bool,
     /// The action of a key upon a deletion or an update.
     pub action: fn(&Key, bool) -> Action,
     /// The sequence of foreign keys.

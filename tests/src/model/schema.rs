@@ -1,5 +1,6 @@
 //! A schema as the model keeps it.
 
+use super::folding::{compared_key, folded, Mark};
 use crate::schema_bytes::rules::Rules;
 use crate::schema_bytes::view::{bit, table_at, View};
 
@@ -7,11 +8,14 @@ use crate::schema_bytes::view::{bit, table_at, View};
 pub type Value = Option<i64>;
 pub type Row = Vec<Value>;
 
+#[derive(Clone)]
 pub struct Table {
     pub rows: usize,
     pub columns: usize,
     pub not_null: Vec<usize>,
     pub unique: Vec<Vec<usize>>,
+    /// The mark of each column.
+    pub marks: Vec<Mark>,
     pub defaults: Row,
 }
 
@@ -56,6 +60,7 @@ impl Match {
     }
 }
 
+#[derive(Clone)]
 pub struct Key {
     pub child: usize,
     pub parent: usize,
@@ -64,12 +69,16 @@ pub struct Key {
     pub on_update: Action,
     pub child_columns: Vec<usize>,
     pub parent_columns: Vec<usize>,
+    /// The mark by which each pair of columns is compared: that of the parent column. None where
+    /// the parent column is missing.
+    pub marks: Vec<Mark>,
     pub matching: Match,
     /// The parent table or a parent column is missing, or no unique key of the parent has exactly
     /// the parent columns.
     pub broken: bool,
 }
 
+#[derive(Clone)]
 pub struct Schema {
     /// How many records the journal has room for.
     pub room: usize,
@@ -92,7 +101,17 @@ impl Schema {
             tables: (0..s.tables()).map(|t| table(s, t)).collect(),
             keys: (0..s.keys()).map(|k| key(s, k)).collect(),
         };
+        let schema = schema.with_marks(parent_mark);
         schema.with_broken(|parent, columns| parent.unique.iter().any(|u| same(u, columns)))
+    }
+
+    /// The schema with each pair of columns of a foreign key compared by such a mark.
+    pub fn with_marks(mut self, mark: fn(&[Table], &Key, usize) -> Mark) -> Schema {
+        for key in &mut self.keys {
+            let pairs = 0..key.child_columns.len();
+            key.marks = pairs.map(|pair| mark(&self.tables, key, pair)).collect();
+        }
+        self
     }
 
     /// The schema with those keys broken whose parent table is missing or does not serve the parent
@@ -107,6 +126,11 @@ impl Schema {
 
     pub fn any_broken(&self) -> bool {
         self.keys.iter().any(|key| key.broken)
+    }
+
+    pub fn any_folded(&self) -> bool {
+        let mut marks = self.tables.iter().flat_map(|table| &table.marks);
+        marks.any(|mark| mark.is_some())
     }
 
     /// Whether the parent table of a key exists, and its parent columns.
@@ -141,6 +165,21 @@ impl Key {
         let columns = self.parent_columns.iter();
         columns.map(|&c| row.get(c).copied().flatten()).collect()
     }
+
+    /// The values of a child key or a parent key as they are compared.
+    pub fn compared(&self, key: &Row) -> Row {
+        compared_key(&self.marks, key)
+    }
+}
+
+/// The mark by which a foreign key's pair of this number is compared: the parent column's.
+pub fn parent_mark(tables: &[Table], key: &Key, pair: usize) -> Mark {
+    mark_of(tables, key.parent, key.parent_columns[pair])
+}
+
+/// The mark of a column: none where it is missing.
+pub fn mark_of(tables: &[Table], table: usize, column: usize) -> Mark {
+    *tables.get(table)?.marks.get(column)?
 }
 
 /// Whether two lists have the same columns, in any order.
@@ -160,11 +199,13 @@ fn table(s: View, t: usize) -> Table {
         let bytes = s.part(at, 8).try_into().expect("a default has eight bytes");
         (!bit(s.default_null(t), column)).then(|| i64::from_le_bytes(bytes))
     };
+    let mark = |column: usize| bit(s.folded(t), column).then_some(folded as fn(i64) -> i64);
     Table {
         rows: s.half(table_at(t)),
         columns: s.columns(t),
         not_null: columns_of(s.not_null(t)),
         unique: masks.filter(|&mask| mask != 0).map(columns_of).collect(),
+        marks: (0..s.columns(t)).map(mark).collect(),
         defaults: (0..s.columns(t)).map(default).collect(),
     }
 }
@@ -179,6 +220,7 @@ fn key(s: View, k: usize) -> Key {
         on_update: action(s.key_byte(k, 4)),
         child_columns: numbers(s.child_columns(k).0),
         parent_columns: numbers(s.parent_columns(k).0),
+        marks: Vec::new(),
         matching: match s.key_byte(k, 14) {
             0 => Match::Simple,
             _ => Match::Full,

@@ -2,6 +2,7 @@
 
 use super::area::Area;
 use super::change::{self, Change};
+use super::folding::{compared, Mark};
 use super::form::{zero, Form};
 use super::rules::Rules;
 use super::schema::{Row, Schema, Value};
@@ -96,10 +97,16 @@ pub fn rows(area: &Area, search: &Search) -> Vec<usize> {
 }
 
 /// The row of this number, if it is met: it is live, and its column is NULL where NULL is sought,
-/// else equal to the sought value.
+/// else equal to the sought value by the column's mark.
 pub fn met(area: &Area, search: &Search, row: usize) -> Option<Row> {
+    let mark = area.schema.tables[search.table].marks[search.column];
+    met_by(mark, area, search, row)
+}
+
+/// The row of this number, if it is met by this mark.
+pub fn met_by(mark: Mark, area: &Area, search: &Search, row: usize) -> Option<Row> {
     let live = area.row(search.table, row);
-    live.filter(|row| row[search.column] == search.sought)
+    live.filter(|row| compared(mark, row[search.column]) == compared(mark, search.sought))
 }
 
 /// The row of this number as it is, if it is live and was met when the statement began: another

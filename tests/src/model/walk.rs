@@ -11,7 +11,7 @@ pub struct Walk<'a> {
     pub key: &'a Key,
     pub change: &'a Change,
     pub action: Action,
-    /// The parent's key before the change.
+    /// The parent's key before the change, as typed.
     pub old_key: Row,
 }
 
@@ -27,7 +27,7 @@ pub fn following<'a>(
         let key = &schema.keys[k];
         let old_key = key.parent_key(old);
         let new_key = change.new.as_ref().map(|row| key.parent_key(row));
-        (rules.fires)(&old_key, new_key.as_ref()).then(|| Walk {
+        (rules.fires)(key, &old_key, new_key.as_ref()).then(|| Walk {
             key,
             change,
             action: (rules.action)(key, change.new.is_none()),
@@ -38,9 +38,10 @@ pub fn following<'a>(
     sequence.into_iter().filter_map(walk).collect()
 }
 
-/// Actions follow a deletion, or an update that alters the key, if the old key has no NULL.
-pub fn fires(old: &Row, new: Option<&Row>) -> bool {
-    full(old) && new != Some(old)
+/// Actions follow a deletion, or an update whose new key is not equal to the old one, if the old key
+/// has no NULL.
+pub fn fires(key: &Key, old: &Row, new: Option<&Row>) -> bool {
+    full(old) && new.map_or(true, |new| key.compared(new) != key.compared(old))
 }
 
 pub fn action(key: &Key, deletion: bool) -> Action {
@@ -76,7 +77,9 @@ impl Walk<'_> {
 /// The child row of this number, if it is live and has the old key.
 pub fn found(rules: &Rules, area: &Area, walk: &Walk, row: usize) -> Option<(usize, Row)> {
     let live = area.row(walk.key.child, row);
-    live.filter(|child| (rules.equal)(&walk.key.child_key(child), &walk.old_key))
+    let old_key = walk.key.compared(&walk.old_key);
+    let child_key = |child: &Row| walk.key.compared(&walk.key.child_key(child));
+    live.filter(|child| (rules.equal)(&child_key(child), &old_key))
         .map(|child| (row, child))
 }
 

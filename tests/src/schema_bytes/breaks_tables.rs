@@ -2,7 +2,7 @@
 
 use crate::random::Random;
 use crate::schema_bytes::breaks::Break;
-use crate::schema_bytes::records::Table;
+use crate::schema_bytes::records::{Schema, Table};
 
 pub const TABLES: &[Break] = &[
     ("rows 0", 1, |s, r| s.any_table(r).rows = 0),
@@ -37,8 +37,33 @@ pub const TABLES: &[Break] = &[
         let t = s.any_table(r);
         t.default_null |= bit_past(t, r);
     }),
+    ("folded of no column", 1, |s, r| {
+        let t = s.any_table(r);
+        t.folded |= bit_past(t, r);
+    }),
+    ("column C folded", 1, |s, r| {
+        let t = s.any_table(r);
+        t.folded |= (1u16 << t.columns) as u8;
+    }),
+    ("bit 7 folded in the last table only", 1, |s, _| {
+        if let [.., last] = &mut s.tables[..] {
+            if last.columns < 8 {
+                last.folded |= 128;
+            }
+        }
+    }),
     ("a zero byte of a table not 0", 1, |s, r| {
-        s.any_table(r).zeros[r.between(0, 6)] = r.edged(1, 255) as u8;
+        s.any_table(r).zeros[r.between(0, 5)] = r.edged(1, 255) as u8;
+    }),
+    ("byte 10 of a table not 0", 1, |s, r| set_zero(s, 0, r)),
+    ("byte 11 of a table not 0", 1, |s, r| set_zero(s, 1, r)),
+    ("byte 12 of a table not 0", 1, |s, r| set_zero(s, 2, r)),
+    ("byte 13 of a table not 0", 1, |s, r| set_zero(s, 3, r)),
+    ("byte 14 of a table not 0", 1, |s, r| set_zero(s, 4, r)),
+    ("byte 15 of a table not 0", 1, |s, r| set_zero(s, 5, r)),
+    ("the folded mask in byte 10", 1, |s, r| {
+        let t = s.any_table(r);
+        (t.folded, t.zeros[0]) = (0, t.folded);
     }),
     ("a default beside NULL", 1, |s, r| {
         let t = s.any_table(r);
@@ -61,9 +86,15 @@ const NOTHING: Table = Table {
     not_null: 0,
     unique: [0; 4],
     default_null: 0,
-    zeros: [0; 7],
+    folded: 0,
+    zeros: [0; 6],
     defaults: [0; 8],
 };
+
+/// Sets one of the zero bytes of some table.
+fn set_zero(s: &mut Schema, place: usize, r: &mut Random) {
+    s.any_table(r).zeros[place] = r.edged(1, 255) as u8;
+}
 
 /// The bit of a column past the table's, or 0 where it has eight.
 fn bit_past(t: &Table, r: &mut Random) -> u8 {

@@ -22,7 +22,8 @@ pub fn table(rows: u16, columns: u8, unique: &[u8]) -> Table {
         not_null: 0,
         unique: masks,
         default_null: 0,
-        zeros: [0; 7],
+        folded: 0,
+        zeros: [0; 6],
         defaults: [0; 8],
     }
 }
@@ -53,6 +54,11 @@ pub fn match_full(key: Key) -> Key {
         matching: FULL,
         ..key
     }
+}
+
+/// The table with the columns of a mask folded.
+pub fn folded(table: Table, folded: u8) -> Table {
+    Table { folded, ..table }
 }
 
 /// Table 0 with a key in c0, and table 1 with a key in c0 that refers to it by c1. J = 16.

@@ -1,6 +1,6 @@
 //! Rules of the paper, each changed by one mistake.
 
-use crate::schema_bytes::rules::{all_255, below, distinct};
+use crate::schema_bytes::rules::{all_255, below, distinct, within};
 use crate::schema_bytes::view::{bit, table_at, View};
 
 /// The mistake's name, the name of the rule in whose place it stands, and the changed rule.
@@ -58,9 +58,66 @@ pub const CHANGED: &[Changed] = &[
         },
     ),
     (
+        "bit C of the folded mask let pass",
+        "folded mask",
+        |s, t| (s.columns(t) + 1..8).all(|i| !bit(s.folded(t), i)),
+    ),
+    (
+        "bit 7 of the folded mask let pass",
+        "folded mask",
+        |s, t| (s.columns(t)..7).all(|i| !bit(s.folded(t), i)),
+    ),
+    ("every folded column refused", "folded mask", |s, t| {
+        s.folded(t) == 0
+    }),
+    ("column C - 1 folded refused", "folded mask", |s, t| {
+        (s.columns(t).max(1) - 1..8).all(|i| !bit(s.folded(t), i))
+    }),
+    (
+        "folded columns that are NULL by default refused",
+        "folded mask",
+        |s, t| within(s.folded(t), s.columns(t)) && s.folded(t) & s.default_null(t) == 0,
+    ),
+    (
+        "folded columns of no unique key refused",
+        "folded mask",
+        |s, t| {
+            let keys = s.unique(t).iter().fold(0, |all, &m| all | usize::from(m));
+            s.folded(t) & !keys == 0
+        },
+    ),
+    (
+        "the folded mask of the first table looked at",
+        "folded mask",
+        |s, _| within(s.folded(0), s.columns(0)),
+    ),
+    (
+        "the folded mask sought in byte 10",
+        "folded mask",
+        |s, t| within(s.byte(table_at(t) + 10), s.columns(t)),
+    ),
+    (
         "only the first zero byte looked at",
         "zero bytes of a table",
-        |s, t| s.is_zero(table_at(t) + 9, 1),
+        |s, t| s.is_zero(table_at(t) + 10, 1),
+    ),
+    (
+        "the last zero byte not looked at",
+        "zero bytes of a table",
+        |s, t| s.is_zero(table_at(t) + 10, 5),
+    ),
+    (
+        "byte 10 taken for another mask",
+        "zero bytes of a table",
+        |s, t| {
+            let mask = s.byte(table_at(t) + 10);
+            within(mask, s.columns(t)) && s.is_zero(table_at(t) + 11, 5)
+        },
+    ),
+    (
+        "seven zero bytes as before",
+        "zero bytes of a table",
+        |s, t| s.is_zero(table_at(t) + 9, 7),
     ),
     (
         "only half of a default looked at",

@@ -3,7 +3,7 @@
 use crate::schema_bytes::breaks::Break;
 use crate::schema_bytes::build::{FULL, SIMPLE};
 use crate::schema_bytes::records::{Key, Schema, Table};
-use crate::schema_bytes::valid::{four, valid};
+use crate::schema_bytes::valid::{four, low_bits, valid};
 
 pub const HARMLESS: &[Break] = &[
     ("schema S of the paper", 0, |s, _| *s = paper()),
@@ -42,6 +42,17 @@ pub const HARMLESS: &[Break] = &[
     ("MATCH FULL in every key", 0, |s, _| {
         s.keys.iter_mut().for_each(|key| key.matching = FULL);
     }),
+    ("another folded mask", 0, |s, r| {
+        let t = s.any_table(r);
+        t.folded = r.byte() & low_bits(t.columns.into());
+    }),
+    ("every column of every table folded", 0, |s, _| {
+        let tables = s.tables.iter_mut();
+        tables.for_each(|t| t.folded = low_bits(t.columns.into()));
+    }),
+    ("no column folded", 0, |s, _| {
+        s.tables.iter_mut().for_each(|t| t.folded = 0);
+    }),
     ("a key that refers to its own table", 0, |s, r| {
         let key = s.any_key(r);
         key.child = key.parent;
@@ -57,7 +68,8 @@ pub fn paper() -> Schema {
         not_null: 1,
         unique: [1, 0, 0, 0],
         default_null: 0,
-        zeros: [0; 7],
+        folded: 0,
+        zeros: [0; 6],
         defaults: [0; 8],
     };
     let mut child = table.clone();

@@ -20,7 +20,8 @@ pub struct Table {
     pub not_null: u8,
     pub unique: [u8; 4],
     pub default_null: u8,
-    pub zeros: [u8; 7],
+    pub folded: u8,
+    pub zeros: [u8; 6],
     pub defaults: [i64; 8],
 }
 
@@ -128,7 +129,7 @@ impl Table {
         out.extend(self.rows.to_le_bytes());
         out.extend([self.columns, self.not_null]);
         out.extend(self.unique);
-        out.push(self.default_null);
+        out.extend([self.default_null, self.folded]);
         out.extend(self.zeros);
         for default in self.defaults {
             out.extend(default.to_le_bytes());

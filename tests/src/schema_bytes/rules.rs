@@ -68,8 +68,9 @@ const TABLES: &[Rule] = &[
     ("default-is-NULL mask", |s, t| {
         within(s.default_null(t), s.columns(t))
     }),
+    ("folded mask", |s, t| within(s.folded(t), s.columns(t))),
     ("zero bytes of a table", |s, t| {
-        s.is_zero(table_at(t) + 9, 7)
+        s.is_zero(table_at(t) + 10, 6)
     }),
     ("defaults of NULL", |s, t| {
         (0..8).all(|i| !bit(s.default_null(t), i) || s.default_is_zero(t, i))
@@ -103,7 +104,7 @@ const KEYS: &[Rule] = &[
 ];
 
 /// Whether the bits of a mask at `columns` and above are 0.
-fn within(mask: usize, columns: usize) -> bool {
+pub fn within(mask: usize, columns: usize) -> bool {
     (columns..8).all(|i| !bit(mask, i))
 }
 

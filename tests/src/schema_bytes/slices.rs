@@ -1,7 +1,9 @@
 //! Families of random slices.
 
 use crate::random::Random;
+use crate::schema_bytes::build;
 use crate::schema_bytes::half_drawn::break_some;
+use crate::schema_bytes::records::Table;
 use crate::schema_bytes::valid::{any_valid, four, valid};
 
 pub struct Family {
@@ -26,6 +28,36 @@ pub const FAMILIES: &[Family] = &[
         count: 10 * 16 * 32,
         code: Some(0),
         make: |r, i| half_drawn(r, 1 + i % 16, 1 + i / 16 % 32),
+    },
+    Family {
+        name: "every folded mask of every number of columns",
+        count: 2 + 4 + 8 + 16 + 32 + 64 + 128 + 256,
+        code: Some(0),
+        make: |r, i| {
+            let columns = (usize::BITS - 1 - (i + 2).leading_zeros()) as usize;
+            beside(r, columns, |table| {
+                table.folded = (i + 2 - (1 << columns)) as u8
+            })
+        },
+    },
+    Family {
+        name: "every folded mask with a bit of no column",
+        count: 7 * 256,
+        code: Some(1),
+        make: |r, i| {
+            let (columns, mask) = (1 + i / 256, i % 256);
+            let past = usize::from(mask >> columns == 0) << columns;
+            beside(r, columns, |table| table.folded = (mask | past) as u8)
+        },
+    },
+    Family {
+        name: "every number in every zero byte of a table",
+        count: 6 * 255,
+        code: Some(1),
+        make: |r, i| {
+            let columns = r.between(1, 8);
+            beside(r, columns, |table| table.zeros[i % 6] = (1 + i / 6) as u8)
+        },
     },
     Family {
         name: "valid schemas with some bytes changed",
@@ -69,6 +101,17 @@ pub const FAMILIES: &[Family] = &[
 fn half_drawn(r: &mut Random, tables: usize, keys: usize) -> Vec<u8> {
     let mut schema = valid(r, tables, keys);
     break_some(&mut schema, r);
+    schema.bytes()
+}
+
+/// A schema with a table of so many columns that no key touches, changed in some way.
+fn beside(r: &mut Random, columns: usize, change: impl Fn(&mut Table)) -> Vec<u8> {
+    let (tables, keys) = (r.between(1, 3), r.between(0, 2));
+    let mut schema = valid(r, tables, keys);
+    let mut table = build::table(r.edged(1, 1024) as u16, columns as u8, &[]);
+    change(&mut table);
+    schema.tables.push(table);
+    schema.recount();
     schema.bytes()
 }
 

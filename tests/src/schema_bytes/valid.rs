@@ -37,9 +37,15 @@ pub fn table(r: &mut Random) -> Table {
         not_null: r.byte() & mask,
         unique: unique(r, mask),
         default_null,
-        zeros: [0; 7],
+        folded: folded(r, mask),
+        zeros: [0; 6],
         defaults,
     }
+}
+
+/// The folded columns: none in every other table.
+fn folded(r: &mut Random, mask: u8) -> u8 {
+    r.byte() & mask & r.pick(&[0, 255])
 }
 
 /// Up to four masks, sometimes one of them in two slots.

@@ -53,6 +53,10 @@ impl<'a> View<'a> {
         self.byte(table_at(table) + 8)
     }
 
+    pub fn folded(self, table: usize) -> usize {
+        self.byte(table_at(table) + 9)
+    }
+
     /// Whether the default of the column is 0.
     pub fn default_is_zero(self, table: usize, column: usize) -> bool {
         self.is_zero(table_at(table) + 16 + 8 * column, 8)

@@ -1,14 +1,20 @@
 //! The functions of libsqlite3 that are used, as safe ones.
 
+use super::names;
 use crate::model::schema::Value;
 use std::ffi::{CStr, CString};
 use std::os::raw::{c_char, c_int, c_void};
 use std::ptr::{null, null_mut};
+use std::slice;
 
 const OK: c_int = 0;
 const ROW: c_int = 100;
 const DONE: c_int = 101;
+const TYPE_TEXT: c_int = 3;
 const TYPE_NULL: c_int = 5;
+
+/// In place of a destructor: the library copies the text at once.
+const TRANSIENT: isize = -1;
 
 #[repr(C)]
 struct Handle {
@@ -34,9 +40,18 @@ extern "C" {
     fn sqlite3_reset(statement: *mut c_void) -> c_int;
     fn sqlite3_finalize(statement: *mut c_void) -> c_int;
     fn sqlite3_bind_int64(statement: *mut c_void, number: c_int, value: i64) -> c_int;
+    fn sqlite3_bind_text(
+        statement: *mut c_void,
+        number: c_int,
+        text: *const c_char,
+        length: c_int,
+        destructor: isize,
+    ) -> c_int;
     fn sqlite3_bind_null(statement: *mut c_void, number: c_int) -> c_int;
     fn sqlite3_column_type(statement: *mut c_void, column: c_int) -> c_int;
     fn sqlite3_column_int64(statement: *mut c_void, column: c_int) -> i64;
+    fn sqlite3_column_text(statement: *mut c_void, column: c_int) -> *const u8;
+    fn sqlite3_column_bytes(statement: *mut c_void, column: c_int) -> c_int;
 }
 
 /// The version of the library.
@@ -141,19 +156,31 @@ impl Drop for Connection {
     }
 }
 
+/// What a parameter of a statement is set to.
+pub enum Parameter {
+    Null,
+    Number(i64),
+    Name(Vec<u8>),
+}
+
 pub struct Statement {
     handle: *mut c_void,
 }
 
 impl Statement {
     /// Sets the parameters, the first of which has number 1.
-    pub fn bind(&self, values: &[Value]) {
-        for (i, value) in values.iter().enumerate() {
-            let number = i as c_int + 1;
-            // SAFETY: the statement is reset, and the library refuses numbers out of range.
-            match value {
-                Some(number64) => unsafe { sqlite3_bind_int64(self.handle, number, *number64) },
-                None => unsafe { sqlite3_bind_null(self.handle, number) },
+    pub fn bind(&self, parameters: &[Parameter]) {
+        for (i, parameter) in parameters.iter().enumerate() {
+            let (handle, number) = (self.handle, i as c_int + 1);
+            // SAFETY: the statement is reset, the library refuses numbers out of range, and it copies
+            // a text of this length.
+            match parameter {
+                Parameter::Number(word) => unsafe { sqlite3_bind_int64(handle, number, *word) },
+                Parameter::Name(name) => unsafe {
+                    let (text, length) = (name.as_ptr() as *const c_char, name.len() as c_int);
+                    sqlite3_bind_text(handle, number, text, length, TRANSIENT)
+                },
+                Parameter::Null => unsafe { sqlite3_bind_null(handle, number) },
             };
         }
     }
@@ -178,10 +205,17 @@ impl Statement {
         }
     }
 
-    /// A column of the row that was given.
+    /// A column of the row that was given. A text is a name.
     unsafe fn column(&self, column: c_int) -> Value {
-        let null = sqlite3_column_type(self.handle, column) == TYPE_NULL;
-        (!null).then(|| sqlite3_column_int64(self.handle, column))
+        match sqlite3_column_type(self.handle, column) {
+            TYPE_NULL => None,
+            TYPE_TEXT => {
+                let text = sqlite3_column_text(self.handle, column);
+                let length = sqlite3_column_bytes(self.handle, column) as usize;
+                Some(names::word(slice::from_raw_parts(text, length)))
+            }
+            _ => Some(sqlite3_column_int64(self.handle, column)),
+        }
     }
 }
 

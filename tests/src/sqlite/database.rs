@@ -1,8 +1,8 @@
 //! The book kept by SQLite: it takes the same calls.
 
 pub use super::binding::version;
-use super::binding::{Connection, Statement};
-use super::statements;
+use super::binding::{Connection, Parameter, Statement};
+use super::statements::{self, Form};
 use crate::engine::Orphan;
 use crate::model::form::Call;
 use crate::model::schema::{Row, Schema, Value};
@@ -22,28 +22,34 @@ struct Table {
 
 pub struct Database {
     tables: Vec<Table>,
+    form: Form,
     /// How many levels are open.
     open: usize,
     connection: Connection,
 }
 
 impl Database {
-    /// An empty book.
+    /// An empty book of numbers.
     pub fn new(schema: &Schema) -> Database {
-        Database::with_rows(schema, &[])
+        Database::with_rows(Form::Numbers, schema, &[])
+    }
+
+    /// An empty book of names.
+    pub fn of_names(schema: &Schema) -> Database {
+        Database::with_rows(Form::Names, schema, &[])
     }
 
     /// A book with these rows, each with its table and its number, whatever foreign keys say.
-    pub fn with_rows(schema: &Schema, rows: &[(usize, usize, Row)]) -> Database {
+    pub fn with_rows(form: Form, schema: &Schema, rows: &[(usize, usize, Row)]) -> Database {
         let connection = Connection::in_memory();
         connection.execute("PRAGMA foreign_keys=OFF");
         let numbers = 0..schema.tables.len();
         for number in numbers.clone() {
-            connection.execute(&statements::create_table(schema, number));
+            connection.execute(&statements::create_table(form, schema, number));
         }
         for (table, row, values) in rows {
             let insert = connection.prepare(&statements::insert(schema, *table));
-            insert.bind(&numbered(*row, values));
+            insert.bind(&numbered(form, *row, values));
             assert!(insert.run(), "a row can be entered");
         }
         connection.execute("PRAGMA foreign_keys=ON");
@@ -51,6 +57,7 @@ impl Database {
             tables: numbers
                 .map(|number| Table::new(&connection, schema, number))
                 .collect(),
+            form,
             open: 0,
             connection,
         }
@@ -108,7 +115,7 @@ impl Database {
         which(&self.tables[table])
             .as_ref()
             .map_or(false, |statement| {
-                statement.bind(&numbered(row, new));
+                statement.bind(&numbered(self.form, row, new));
                 statement.run() && self.connection.changes() == 1
             })
     }
@@ -116,7 +123,9 @@ impl Database {
     /// One statement for many rows. That it finds no row is no cause to refuse.
     fn search(&self, search: &Search) -> bool {
         self.prepare_search(search).map_or(false, |statement| {
-            statement.bind(&statements::search_values(search));
+            let values = statements::search_values(search).into_iter();
+            let parameters: Vec<Parameter> = values.map(|v| self.form.parameter(v)).collect();
+            statement.bind(&parameters);
             statement.run()
         })
     }
@@ -186,8 +195,8 @@ impl Table {
 }
 
 /// The parameters of an insert, an update or a deletion: the row number, then the values.
-fn numbered(row: usize, values: &[Value]) -> Vec<Value> {
-    let mut all = vec![Some(row as i64)];
-    all.extend(values);
+fn numbered(form: Form, row: usize, values: &[Value]) -> Vec<Parameter> {
+    let mut all = vec![Parameter::Number(row as i64)];
+    all.extend(values.iter().map(|&value| form.parameter(value)));
     all
 }

@@ -2,4 +2,5 @@
 
 mod binding;
 pub mod database;
+pub mod names;
 pub mod statements;

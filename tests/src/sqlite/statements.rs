@@ -1,14 +1,50 @@
 //! SQL text of a schema.
 
+use super::binding::Parameter;
+use super::names;
 use crate::model::schema::{Key, Schema, Table, Value};
 use crate::model::search::Search;
 
+/// What the values of every column are to SQLite.
+#[derive(Clone, Copy)]
+pub enum Form {
+    Numbers,
+    /// Texts, which are compared without regard to capitals in folded columns.
+    Names,
+}
+
+impl Form {
+    fn literal(self, word: i64) -> String {
+        match self {
+            Form::Numbers => word.to_string(),
+            Form::Names => names::literal(word),
+        }
+    }
+
+    /// The value as a parameter.
+    pub fn parameter(self, value: Value) -> Parameter {
+        match (self, value) {
+            (_, None) => Parameter::Null,
+            (Form::Numbers, Some(word)) => Parameter::Number(word),
+            (Form::Names, Some(word)) => Parameter::Name(names::name(word)),
+        }
+    }
+
+    fn column_type(self, folded: bool) -> &'static str {
+        match (self, folded) {
+            (Form::Numbers, _) => "INTEGER",
+            (Form::Names, false) => "TEXT",
+            (Form::Names, true) => "TEXT COLLATE NOCASE",
+        }
+    }
+}
+
 /// A table with the row number `r` and columns `c0` onwards. SQLite numbers and runs the foreign
 /// keys declared last first, so they are declared from the last to the first.
-pub fn create_table(schema: &Schema, number: usize) -> String {
+pub fn create_table(form: Form, schema: &Schema, number: usize) -> String {
     let table = &schema.tables[number];
     let mut parts = vec!["r INTEGER PRIMARY KEY".to_string()];
-    parts.extend((0..table.columns).map(|c| column(table, c)));
+    parts.extend((0..table.columns).map(|c| column(form, table, c)));
     parts.extend(
         table
             .unique
@@ -20,11 +56,13 @@ pub fn create_table(schema: &Schema, number: usize) -> String {
     format!("CREATE TABLE t{}({})", number, parts.join(", "))
 }
 
-fn column(table: &Table, column: usize) -> String {
+fn column(form: Form, table: &Table, column: usize) -> String {
     let not_null = table.not_null.contains(&column);
-    let default = table.defaults[column].map_or("NULL".into(), |value| format!("({})", value));
+    let default = table.defaults[column].map(|word| format!("({})", form.literal(word)));
+    let default = default.unwrap_or("NULL".into());
     let constraint = if not_null { " NOT NULL" } else { "" };
-    format!("c{} INTEGER{} DEFAULT {}", column, constraint, default)
+    let kind = form.column_type(table.marks[column].is_some());
+    format!("c{} {}{} DEFAULT {}", column, kind, constraint, default)
 }
 
 fn foreign_key(key: &Key) -> String {

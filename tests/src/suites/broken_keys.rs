@@ -1,17 +1,17 @@
 //! The built engine against the model on schemas with broken foreign keys.
 
-use super::met::report_met;
+use super::watched;
 use crate::engine::Built;
 use crate::random::Random;
 use crate::report::Report;
-use crate::trials::broken_keys::BrokenKeys;
+use crate::trials::broken_keys::SORT;
 use crate::trials::broken_keys_situations::{OF_LISTS, SITUATIONS};
 use crate::trials::every_parent::EveryParent;
 
-/// How many calls there are to be, how many of each code, and of each situation.
-const LEAST_CALLS: usize = 200_000;
-const LEAST_OF_A_CODE: usize = 100;
-const LEAST_OF_A_SITUATION: usize = 5;
+const NAME: &str = "broken keys";
+
+/// How many whole keys and broken ones there are to be among every parent.
+const LEAST_KEYS: usize = 100;
 
 /// The codes of calls and of lists, but for those of malformed inputs.
 const CODES: &[i64] = &[0, 10, 11, 12, 13, 14, 15, 16, 17, 18, 19, 20, 21, 23];
@@ -19,26 +19,12 @@ const CODES_OF_LISTS: &[i64] = &[0, 10, 22];
 
 pub fn run(r: &mut Random, report: &mut Report) {
     every_parent(report);
-    let mut trials = BrokenKeys::new();
-    let mut outcome = Ok(());
-    while outcome.is_ok() && trials.codes.sum() < LEAST_CALLS {
-        outcome = trials.trial(&Built, r);
-    }
-    println!(
-        "{} calls and {} orphan lists on schemas with broken keys compared with the model",
-        trials.codes.sum(),
-        trials.lists.codes.sum()
-    );
-    report.test("broken keys", outcome);
-    let codes = trials.codes.of(CODES);
-    report.counts("broken keys by code", LEAST_OF_A_CODE, &codes);
-    let codes = trials.lists.codes.of(CODES_OF_LISTS);
-    report.counts("lists on broken keys by code", LEAST_OF_A_CODE, &codes);
+    let watched = watched::run(r, report, (NAME, &SORT), CODES);
+    watched::report_lists(report, NAME, &watched, CODES_OF_LISTS);
     let situations = SITUATIONS.into_iter().flatten();
-    let least = ("broken keys", LEAST_OF_A_SITUATION);
-    report_met(report, least, situations, &trials.met);
-    let least = ("lists on broken keys", LEAST_OF_A_SITUATION);
-    report_met(report, least, OF_LISTS.iter(), &trials.met);
+    watched::report_situations(report, NAME, situations, &watched);
+    let title = "lists on broken keys";
+    watched::report_situations(report, title, OF_LISTS.iter(), &watched);
 }
 
 /// Whether a key is broken, for every parent of some forms.
@@ -51,14 +37,6 @@ fn every_parent(report: &mut Report) {
         "every parent table, column and choice of columns tried: {} whole keys, {} broken",
         every.whole, every.broken
     );
-    report.at_least(
-        "whole keys among every parent",
-        LEAST_OF_A_CODE,
-        every.whole,
-    );
-    report.at_least(
-        "broken keys among every parent",
-        LEAST_OF_A_CODE,
-        every.broken,
-    );
+    report.at_least("whole keys among every parent", LEAST_KEYS, every.whole);
+    report.at_least("broken keys among every parent", LEAST_KEYS, every.broken);
 }

@@ -5,14 +5,16 @@ use crate::engine::Engine;
 use crate::mistakes;
 use crate::random::Random;
 use crate::report::Report;
-use crate::trials::broken_keys::BrokenKeys;
+use crate::trials::broken_keys;
 use crate::trials::child_rows::ChildRows;
 use crate::trials::every_parent::EveryParent;
-use crate::trials::half_filled::HalfFilled;
+use crate::trials::folded;
+use crate::trials::half_filled;
 use crate::trials::operations::Operations;
 use crate::trials::orphan_lists::OrphanLists;
 use crate::trials::replay::Replay;
 use crate::trials::sqlite::Alike;
+use crate::trials::watched::Watched;
 
 /// A part's name, and whether it catches an engine.
 type Part = (&'static str, fn(&dyn Engine, &mut Random) -> bool);
@@ -27,12 +29,16 @@ const PARTS: &[Part] = &[
         (0..1_000).any(|_| child_rows.trial(engine, r).is_err())
     }),
     ("half-filled keys", |engine, r| {
-        let mut half_filled = HalfFilled::new();
+        let mut half_filled = Watched::new(&half_filled::SORT);
         (0..60).any(|_| half_filled.trial(engine, r).is_err())
     }),
     ("broken keys", |engine, r| {
-        let mut broken_keys = BrokenKeys::new();
+        let mut broken_keys = Watched::new(&broken_keys::SORT);
         (0..200).any(|_| broken_keys.trial(engine, r).is_err())
+    }),
+    ("folded columns", |engine, r| {
+        let mut folded = Watched::new(&folded::SORT);
+        (0..60).any(|_| folded.trial(engine, r).is_err())
     }),
     ("every parent", |engine, _| {
         let mut every = EveryParent::new();

@@ -3,6 +3,7 @@
 mod broken_keys;
 mod child_rows;
 mod edges;
+mod folded;
 mod half_filled;
 mod met;
 mod mistakes;
@@ -13,6 +14,8 @@ mod replay;
 mod schema;
 mod sqlite;
 mod sqlite_broken;
+mod sqlite_names;
+mod watched;
 
 use crate::random::Random;
 use crate::report::Report;
@@ -26,6 +29,7 @@ pub const ALL: &[(&str, Suite)] = &[
     ("child_rows", child_rows::run),
     ("half_filled", half_filled::run),
     ("broken_keys", broken_keys::run),
+    ("folded", folded::run),
     ("orphan_lists", orphan_lists::run),
     ("replay", replay::run),
     ("edges", edges::run),

@@ -1,7 +1,8 @@
 //! The built program on stored inputs against stored outputs, and on random ones against the model.
 
 use crate::differences::hex;
-use crate::model::program::text;
+use crate::model::program::{schema_length, text};
+use crate::model::schema::Schema;
 use crate::model::Model;
 use crate::random::Random;
 use crate::report::Report;
@@ -20,6 +21,8 @@ const STORED: &[&str] = &[
     "parent_table_200",
     "match_full",
     "match_of_2",
+    "folded",
+    "folded_no_column",
     "words_8192",
     "words_8193",
 ];
@@ -27,6 +30,7 @@ const STORED: &[&str] = &[
 const RANDOM_INPUTS: usize = 1_500;
 const LEAST_SEARCHES: usize = 10_000;
 const LEAST_BY_23: usize = 500;
+const LEAST_FOLDED: usize = 200;
 
 pub fn run(r: &mut Random, report: &mut Report) {
     for name in STORED {
@@ -34,10 +38,11 @@ pub fn run(r: &mut Random, report: &mut Report) {
     }
     report.test("hoofrun: the paper's calls cut at each byte", cut());
     let mut outcome = Ok(());
-    let (mut inputs, mut searches, mut by_23) = (0, 0, 0);
+    let (mut inputs, mut searches, mut by_23, mut folded) = (0, 0, 0, 0);
     while outcome.is_ok() && inputs < RANDOM_INPUTS {
         let input = random_input(r);
         searches += searches_in(&input);
+        folded += usize::from(has_folded(&input));
         let printed = against_model(&input);
         by_23 += printed
             .iter()
@@ -47,14 +52,21 @@ pub fn run(r: &mut Random, report: &mut Report) {
         inputs += 1;
     }
     println!(
-        "{} random inputs of hoofrun compared with the model: {} calls of kinds 10 and 11, {} calls \
-         refused by 23",
-        inputs, searches, by_23
+        "{} random inputs of hoofrun compared with the model, {} with folded columns: {} calls of \
+         kinds 10 and 11, {} calls refused by 23",
+        inputs, folded, searches, by_23
     );
     report.test("hoofrun: random inputs", outcome);
     let name = "hoofrun: calls of kinds 10 and 11";
     report.at_least(name, LEAST_SEARCHES, searches);
     report.at_least("hoofrun: calls refused by 23", LEAST_BY_23, by_23);
+    report.at_least("hoofrun: inputs with folded columns", LEAST_FOLDED, folded);
+}
+
+/// Whether an input has an accepted schema with folded columns.
+fn has_folded(input: &[u8]) -> bool {
+    let schema = Schema::read(&input[..schema_length(input)]);
+    schema.map_or(false, |schema| schema.any_folded())
 }
 
 /// How many lines of a printed text are those of refusal 23.

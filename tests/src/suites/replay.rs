@@ -18,6 +18,11 @@ const LEAST_HALF_DRAWN: usize = 200;
 const LEAST_BY_23: usize = 2_000;
 const LEAST_PARENTS_ENTERED: usize = 50;
 
+/// How many lists on schemas with folded columns there are to be, and how many calls that spell a row
+/// otherwise striking out leaves and does not.
+const LEAST_FOLDED: usize = 200;
+const LEAST_RESPELLING: usize = 200;
+
 pub fn run(r: &mut Random, report: &mut Report) {
     let mut replay = Replay::new();
     let mut outcome = Ok(());
@@ -41,6 +46,11 @@ pub fn run(r: &mut Random, report: &mut Report) {
          key's parent, {} left by striking out",
         replay.half_drawn, replay.refused_by_23, replay.parents_entered, replay.parents_left
     );
+    println!(
+        "{} lists on schemas with folded columns: {} calls spell a row otherwise, {} left by striking \
+         out",
+        replay.folded, replay.respelling, replay.respelling_left
+    );
     report.test("lists replayed", outcome);
     report.at_least("lists", LEAST_LISTS, replay.lists);
     report.at_least(
@@ -50,6 +60,7 @@ pub fn run(r: &mut Random, report: &mut Report) {
     );
     report_struck(report, &replay);
     report_broken(report, &replay);
+    report_folded(report, &replay);
 }
 
 /// What striking out left, and what it did not.
@@ -81,6 +92,18 @@ fn report_broken(report: &mut Report, replay: &Replay) {
         ("calls refused by 23", LEAST_BY_23, replay.refused_by_23),
         ("parents left", LEAST_PARENTS_ENTERED, replay.parents_left),
         ("parents struck", LEAST_PARENTS_ENTERED, struck),
+    ] {
+        report.at_least(&format!("replayed: {}", name), least, count);
+    }
+}
+
+/// What was met on schemas with folded columns.
+fn report_folded(report: &mut Report, replay: &Replay) {
+    let (left, all) = (replay.respelling_left, replay.respelling);
+    for (name, least, count) in [
+        ("lists on folded columns", LEAST_FOLDED, replay.folded),
+        ("other spellings left", LEAST_RESPELLING, left),
+        ("other spellings struck", LEAST_RESPELLING, all - left),
     ] {
         report.at_least(&format!("replayed: {}", name), least, count);
     }

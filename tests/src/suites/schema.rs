@@ -22,6 +22,9 @@ const BREAK_TURNS: usize = 200;
 const LEAST_SLICES: usize = 200_000;
 const LEAST_OF_A_CODE: usize = 1_000;
 
+/// How many columns of a table are folded.
+const FOLDED: &[&str] = &["none", "some", "all"];
+
 /// The forms of a foreign key: its match, and how many columns it has.
 const FORMS: &[&str] = &[
     "SIMPLE of 1",
@@ -39,6 +42,7 @@ pub fn run(r: &mut Random, report: &mut Report) {
         model: Rules::of_the_paper(),
         mistakes: mistakes::all(),
         codes: [0; 2],
+        folded: Counts::default(),
         keys: Counts::default(),
         broken: Counts::default(),
     };
@@ -53,6 +57,11 @@ pub fn run(r: &mut Random, report: &mut Report) {
         report.test(family.name, judge.run_family(family, r));
     }
     judge.count_codes(report);
+    report.counts(
+        "accepted tables by folded columns",
+        LEAST_OF_A_CODE,
+        &judge.folded.of(FOLDED),
+    );
     report.counts(
         "accepted foreign keys",
         LEAST_OF_A_CODE,
@@ -73,6 +82,8 @@ struct Judge {
     mistakes: Vec<Mistake>,
     /// How many slices had the code 0 or 1.
     codes: [usize; 2],
+    /// How many tables of accepted slices had no column folded, some, or all.
+    folded: Counts<&'static str>,
     /// How many foreign keys of accepted slices had each form.
     keys: Counts<&'static str>,
     /// How many of them were broken, by what breaks them.
@@ -131,6 +142,7 @@ impl Judge {
         let code = self.model.code(bytes);
         self.codes[code as usize] += 1;
         if let Ok(schema) = Schema::read(bytes) {
+            self.count_folded(&schema);
             self.count_keys(&schema);
         }
         for mistake in self.mistakes.iter_mut().filter(|m| !m.caught) {
@@ -146,6 +158,18 @@ impl Judge {
                 expected,
                 hex(bytes)
             ));
+        }
+    }
+
+    /// Counts the tables of an accepted slice.
+    fn count_folded(&mut self, schema: &Schema) {
+        for table in &schema.tables {
+            let folded = table.marks.iter().filter(|mark| mark.is_some()).count();
+            self.folded.add(match folded {
+                0 => FOLDED[0],
+                all if all == table.columns => FOLDED[2],
+                _ => FOLDED[1],
+            });
         }
     }
 

@@ -1,6 +1,6 @@
 //! The built engine against stock SQLite.
 
-use super::sqlite_broken;
+use super::{sqlite_broken, sqlite_names};
 use crate::engine::{Answer, Built, Engine};
 use crate::inputs::calls::row_call;
 use crate::inputs::grounds::Ground;
@@ -15,7 +15,7 @@ use crate::trials::searches;
 use crate::trials::sqlite::Alike;
 
 /// How many calls there are to be, and how many that are accepted.
-const LEAST_CALLS: usize = 60_000;
+const LEAST_CALLS: usize = 75_000;
 const LEAST_ACCEPTED: usize = 20_000;
 
 /// How many calls at most SQLite may accept by a miscount of its own.
@@ -47,6 +47,52 @@ const LEAST_BY_23: usize = 1_000;
 const LEAST_BESIDE_BROKEN: usize = 300;
 const LEAST_PARENTS_ENTERED: usize = 10;
 
+/// How many calls on names there are to be, and what is to be seen in how many of them.
+const LEAST_OF_NAMES: usize = 15_000;
+const LEAST_OF_A_SPELLING: usize = 3;
+const SPELLINGS: &[&str] = &[
+    "parent in another spelling, both columns folded",
+    "parent in another spelling, its column alone folded",
+    "orphan for its spelling, its column alone folded",
+    "two keys of one column, a parent by one",
+    "first of several pairs in another spelling",
+    "second pair in another spelling",
+    "orphan for 40 and 60",
+    "orphan for 5B and 7B",
+    "mended by a parent in another spelling",
+    "unique but for the spelling of an unfolded column",
+    "unique for 40 and 60",
+    "unique for 5B and 7B",
+    "kind 10 finds another spelling",
+    "kind 11 finds another spelling",
+    "kind 10 passes over another spelling, not folded",
+    "kind 11 passes over another spelling, not folded",
+    "not found for 40 and 60",
+    "not found for 5B and 7B",
+    "a parent respelled, on update NO ACTION",
+    "a parent respelled, on update RESTRICT",
+    "a parent respelled, on update SET NULL",
+    "a parent respelled, on update SET DEFAULT",
+    "a parent respelled, on update CASCADE",
+    "NO ACTION on delete, another spelling",
+    "NO ACTION on update, another spelling",
+    "SET NULL on delete, another spelling",
+    "SET NULL on update, another spelling",
+    "SET DEFAULT on delete, another spelling",
+    "SET DEFAULT on update, another spelling",
+    "CASCADE on delete, another spelling",
+    "CASCADE on update, another spelling",
+    "CASCADE gives capitals as typed",
+    "SET DEFAULT gives the old key in another spelling",
+    "actions for the spelling of an unfolded column",
+    "17 by another spelling, a row entered",
+    "17 by another spelling, a row updated",
+    "17 by one folded column of two or more",
+    "18 on delete by another spelling",
+    "18 on update by another spelling",
+    "20 for another spelling than an unfolded parent's",
+];
+
 /// How many orphan lists there are to be, and how many with orphans.
 const LEAST_LISTS: usize = 10_000;
 const LEAST_WITH_ORPHANS: usize = 1_000;
@@ -59,14 +105,15 @@ pub fn run(r: &mut Random, report: &mut Report) {
     }
     println!(
         "{} calls compared with SQLite {}: {} accepted, {} of them by a miscount of its own; \
-         left out: {} by order, {} by limits, {} by broken keys",
+         left out: {} by order, {} by limits, {} by broken keys, {} by spelling",
         alike.calls,
         version(),
         alike.accepted,
         alike.miscounted,
         alike.by_order,
         alike.by_limit,
-        alike.by_statement
+        alike.by_statement,
+        alike.by_spelling
     );
     report.test("calls and orphan lists compared with SQLite", outcome);
     report.at_least("calls sent to SQLite", LEAST_CALLS, alike.calls);
@@ -78,7 +125,9 @@ pub fn run(r: &mut Random, report: &mut Report) {
     report_actions(report, &alike);
     report_lists(report, &alike);
     report_broken(report, &alike);
+    report_names(report, &alike);
     sqlite_broken::run(report);
+    sqlite_names::run(report);
     let name = "SQLite does not enforce MATCH FULL";
     report.test(name, match_full_passes());
 }
@@ -135,6 +184,16 @@ fn report_lists(report: &mut Report, alike: &Alike) {
         LEAST_WITH_ORPHANS,
         alike.with_orphans,
     );
+}
+
+fn report_names(report: &mut Report, alike: &Alike) {
+    println!(
+        "{} calls on names, some in folded columns, compared with SQLite",
+        alike.of_names
+    );
+    report.at_least("calls of SQLite on names", LEAST_OF_NAMES, alike.of_names);
+    let met = alike.spellings.of(SPELLINGS);
+    report.counts("names of SQLite", LEAST_OF_A_SPELLING, &met);
 }
 
 fn report_broken(report: &mut Report, alike: &Alike) {

@@ -4,7 +4,6 @@
 use crate::engine::{Built, Engine};
 use crate::inputs::calls::row_call;
 use crate::inputs::grounds::Ground;
-use crate::model::area::Area;
 use crate::model::form;
 use crate::model::rules::Rules;
 use crate::model::schema::{Row, Value};
@@ -13,6 +12,7 @@ use crate::report::Report;
 use crate::schema_bytes::build::{deferred, key, table, NO_ACTION};
 use crate::schema_bytes::records::{Key, Schema as Records, Table};
 use crate::sqlite::database::Database;
+use crate::sqlite::statements::Form;
 
 /// What breaks the key of table 1, c1, to table 0: its parent columns and table, and the unique keys
 /// of table 0.
@@ -173,10 +173,7 @@ pub fn run(report: &mut Report) {
 
 fn compare(case: &Case, number: usize, waits: bool) -> Result<(), String> {
     let ground = ground(number, waits);
-    let mut area = Area {
-        schema: &ground.schema,
-        words: ground.fresh(),
-    };
+    let mut area = ground.area(&ground.fresh());
     for (table, row, values) in rows() {
         area.put_row(table, row, Some(&values));
     }
@@ -184,7 +181,7 @@ fn compare(case: &Case, number: usize, waits: bool) -> Result<(), String> {
     let answer = Built.call(&ground.bytes, &mut area.words, &call);
     let form = form::read(&Rules::of_the_paper(), &ground.schema, &call);
     let form = form.ok_or("the call is malformed")?;
-    let mut database = Database::with_rows(&ground.schema, &rows());
+    let mut database = Database::with_rows(Form::Numbers, &ground.schema, &rows());
     let prevented = database.prevents(&form);
     let changed = database.call(&form);
     let expected = (case.codes[number], case.accepts[usize::from(waits)][number]);

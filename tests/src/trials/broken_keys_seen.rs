@@ -1,27 +1,14 @@
 //! A call as it is observed for broken foreign keys: the row changes of its statement, each with the
 //! refusals that are due for it, and what would follow if some rules were others.
 
+use super::trace::{Step, Trace};
+use super::watched::Made;
 use crate::model::area::Area;
-use crate::model::change::{self, uses, Change, Kind};
+use crate::model::change::uses;
 use crate::model::form::Call;
 use crate::model::rules::Rules;
-use crate::model::schema::{Action, Key, Row, Schema};
-use crate::model::{search, statement, walk};
-
-type Outcome = Result<(), i64>;
-
-/// A row change that came to its checks.
-pub struct Step {
-    pub depth: usize,
-    pub table: usize,
-    pub kind: Kind,
-    pub old: Option<Row>,
-    pub new: Option<Row>,
-    /// The action that it follows from, if it is not the statement's own.
-    pub action: Option<Action>,
-    /// The refusals whose checks do not hold.
-    pub due: Vec<i64>,
-}
+use crate::model::schema::{Action, Key, Schema};
+use crate::model::{statement, walk};
 
 /// A call that was observed. Its words have the form of a call, and its area the length of one.
 pub struct Seen<'a> {
@@ -40,18 +27,13 @@ pub struct Seen<'a> {
 }
 
 impl<'a> Seen<'a> {
-    pub fn new(
-        rules: &Rules,
-        call: &'a Call,
-        code: i64,
-        before: &'a Area<'a>,
-        after: &'a Area<'a>,
-    ) -> Seen<'a> {
+    pub fn new(rules: &Rules, made: &'a Made<'a>) -> Seen<'a> {
+        let (call, code, before) = (&made.call, made.code, &made.before);
         let mut steps = Vec::new();
         let mut kept = before.kept().to_vec();
         if !matches!(code, 10..=13) {
             let mut area = before.clone();
-            let _ = Trace::new(rules, &mut steps).statement(&mut area, call);
+            steps = Trace::new(rules, &mut area, call).steps;
             let moves = statement::moves(rules, before, &area);
             kept.iter_mut()
                 .zip(moves)
@@ -66,7 +48,7 @@ impl<'a> Seen<'a> {
             call,
             code,
             before,
-            after,
+            after: &made.after,
             steps,
             kept,
             without_restrict: code_by(&without_restrict(rules)),
@@ -97,17 +79,9 @@ impl<'a> Seen<'a> {
     }
 }
 
-/// The row changes of a statement, up to the one that is refused.
-pub fn steps(rules: &Rules, before: &Area, call: &Call) -> Vec<Step> {
-    let mut steps = Vec::new();
-    let _ = Trace::new(rules, &mut steps).statement(&mut before.clone(), call);
-    steps
-}
-
 /// The code of the statement's row changes by other rules: 0 where they are made.
 fn code_by(rules: &Rules, before: &Area, call: &Call) -> i64 {
-    let outcome = Trace::new(rules, &mut Vec::new()).statement(&mut before.clone(), call);
-    outcome.err().unwrap_or(0)
+    Trace::with_code(rules, &mut before.clone(), call).1
 }
 
 fn without_restrict(rules: &Rules) -> Rules {
@@ -128,57 +102,4 @@ fn without_broken(rules: &Rules) -> Rules {
         keys
     };
     rules
-}
-
-/// A statement made row change by row change as the model makes it.
-struct Trace<'r> {
-    rules: &'r Rules,
-    steps: &'r mut Vec<Step>,
-}
-
-impl<'r> Trace<'r> {
-    fn new(rules: &'r Rules, steps: &'r mut Vec<Step>) -> Trace<'r> {
-        Trace { rules, steps }
-    }
-
-    fn statement(&mut self, area: &mut Area, call: &Call) -> Outcome {
-        let (table, row, new) = match call {
-            Call::Insert(table, row, new) | Call::Update(table, row, new) => {
-                (*table, *row, Some(new.clone()))
-            }
-            Call::Delete(table, row) => (*table, *row, None),
-            Call::Search(search) => {
-                let entry = area.clone();
-                for row in search::rows(&entry, search) {
-                    if let Some(own) = search::own_change(self.rules, &entry, area, search, row) {
-                        self.change(area, &own, None)?;
-                    }
-                }
-                return Ok(());
-            }
-            _ => return Ok(()),
-        };
-        self.change(area, &Change::own(table, row, new), None)
-    }
-
-    fn change(&mut self, area: &mut Area, change: &Change, action: Option<Action>) -> Outcome {
-        let failing = self.rules.checks.iter().filter(|c| !(c.1)(area, change));
-        self.steps.push(Step {
-            depth: change.depth,
-            table: change.table,
-            kind: change::kind(area, change),
-            old: area.row(change.table, change.row),
-            new: change.new.clone(),
-            action,
-            due: failing.map(|check| check.0).collect(),
-        });
-        for walk in change::written(self.rules, area, change)? {
-            for row in (self.rules.turns)(area, walk.key, &walk.old_key) {
-                if let Some(next) = walk.turn(self.rules, area, row)? {
-                    self.change(area, &next, Some(walk.action))?;
-                }
-            }
-        }
-        Ok(())
-    }
 }

@@ -2,8 +2,9 @@
 //! that it can be counted. Child rows of a broken key are not there in reached areas.
 
 use super::broken_by;
-use super::broken_keys_seen::{Seen, Step};
+use super::broken_keys_seen::Seen;
 use super::origins::Origin::{self, Damaged, Filled, Reached};
+use super::trace::Step;
 use crate::model::area::Area;
 use crate::model::change::Kind;
 use crate::model::form::Call;
@@ -342,9 +343,10 @@ pub fn shown_by_list<'s>(area: &'s Area) -> impl Iterator<Item = &'static str> +
 fn any_unserved(area: &Area, such: impl Fn(&Key, &Row) -> bool) -> bool {
     let any_of = |key: &Key| {
         let parents = area.live_rows(key.parent).into_iter();
-        let parent_keys: BTreeSet<Row> = parents.map(|(_, row)| key.parent_key(&row)).collect();
+        let parent_keys = parents.map(|(_, row)| key.compared(&key.parent_key(&row)));
+        let parent_keys: BTreeSet<Row> = parent_keys.collect();
         let rows = area.live_rows(key.child).into_iter();
-        let mut child_keys = rows.map(|(_, row)| key.child_key(&row));
+        let mut child_keys = rows.map(|(_, row)| key.compared(&key.child_key(&row)));
         child_keys.any(|child| unserved(key, &child, &parent_keys) && such(key, &child))
     };
     let mut broken = area.schema.keys.iter().filter(|key| key.broken);

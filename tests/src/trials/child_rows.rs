@@ -66,7 +66,7 @@ fn start(r: &mut Random) -> (Ground, Vec<i64>, Origin) {
         return (ground, area, Origin::Reached);
     }
     let ground = if r.once_in(5) {
-        grounds::tangled(r)
+        grounds::tangled(r).folded_once_in(r, 4)
     } else {
         herds::ground(r)
     };

@@ -21,7 +21,8 @@ pub enum State {
     Served,
 }
 
-/// A child row: its state and its child key, none where it is vacant, before the call and after it.
+/// A child row: its state and its child key as it is compared, none where it is vacant, before the
+/// call and after it.
 pub struct Child {
     pub was: State,
     pub is: State,
@@ -46,7 +47,7 @@ impl Child {
     }
 }
 
-/// A parent row's key, before the call and after it.
+/// A parent row's key as it is compared, before the call and after it.
 type Parent = (Option<Row>, Option<Row>);
 
 pub struct OfKey<'a> {
@@ -57,7 +58,8 @@ pub struct OfKey<'a> {
     kept: i64,
     pub children: Vec<Child>,
     pub parents: Vec<Parent>,
-    /// The old key and the action where a parent's change of this call is followed by actions.
+    /// The old key as it is compared and the action, where a parent's change of this call is followed
+    /// by actions.
     pub fired: Option<(Row, Action)>,
 }
 
@@ -139,14 +141,16 @@ impl<'a> OfKey<'a> {
 fn parents(key: &Key, before: &Area, after: &Area) -> Vec<Parent> {
     let parent = before.schema.tables.get(key.parent);
     let rows = 0..parent.map_or(0, |table| table.rows);
-    let of = |area: &Area, number| area.row(key.parent, number).map(|row| key.parent_key(&row));
+    let parent_key = |row: Row| key.compared(&key.parent_key(&row));
+    let of = |area: &Area, number| area.row(key.parent, number).map(parent_key);
     rows.map(|number| (of(before, number), of(after, number)))
         .collect()
 }
 
 fn children(key: &Key, before: &Area, after: &Area, parents: &[Parent]) -> Vec<Child> {
     let rows = 0..before.schema.tables[key.child].rows;
-    let of = |area: &Area, number| area.row(key.child, number).map(|row| key.child_key(&row));
+    let child_key = |row: Row| key.compared(&key.child_key(&row));
+    let of = |area: &Area, number| area.row(key.child, number).map(child_key);
     let child = |number| {
         let (old, new) = (of(before, number), of(after, number));
         Child {
@@ -179,6 +183,6 @@ fn fired(key: &Key, before: &Area, call: &Call) -> Option<(Row, Action)> {
     };
     let old = before.row(table, row).filter(|_| key.parent == table)?;
     let (old, new) = (key.parent_key(&old), new.map(|new| key.parent_key(new)));
-    let fires = walk::fires(&old, new.as_ref());
-    fires.then(|| (old, walk::action(key, new.is_none())))
+    let fires = walk::fires(key, &old, new.as_ref());
+    fires.then(|| (key.compared(&old), walk::action(key, new.is_none())))
 }

@@ -8,7 +8,6 @@ use crate::counts::Counts;
 use crate::engine::Engine;
 use crate::inputs::grounds::Ground;
 use crate::inputs::{areas, calls, damages, orphan_grounds, other_schemas};
-use crate::model::area::Area;
 use crate::random::Random;
 
 type Outcome = Result<(), String>;
@@ -96,10 +95,7 @@ impl OrphanLists {
             self.longest = self.longest.max(compared.orphans.len());
         }
         if matches!(compared.code, 0 | 22) {
-            let area = Area {
-                schema: &ground.schema,
-                words: area.to_vec(),
-            };
+            let area = ground.area(area);
             let shown = situations::of(&area, &compared);
             let met = &mut self.met[origin as usize];
             shown.into_iter().for_each(|situation| met.add(situation));

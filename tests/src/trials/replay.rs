@@ -6,7 +6,7 @@ use crate::engine::{Answer, Engine};
 use crate::inputs::calls::plain_call;
 use crate::inputs::grounds::{self, Ground};
 use crate::inputs::{malformed, mixed_calls};
-use crate::model::area::Area;
+use crate::model::folding::compared_key;
 use crate::model::keys::orphan_counts;
 use crate::model::schema::{Key, Match, Schema};
 use crate::model::{strike, Model};
@@ -34,6 +34,11 @@ pub struct Replay {
     pub refused_by_23: usize,
     pub parents_entered: usize,
     pub parents_left: usize,
+    /// How many lists were on schemas with folded columns, and how many accepted calls spelled a row
+    /// otherwise in a folded column and were left, or not.
+    pub folded: usize,
+    pub respelling: usize,
+    pub respelling_left: usize,
 }
 
 /// A list of calls and the answers to it.
@@ -42,6 +47,8 @@ struct Run {
     codes: Vec<i64>,
     answers: Vec<Answer>,
     area: Vec<i64>,
+    /// The numbers of the calls that spelled a row otherwise.
+    respelling: Vec<usize>,
 }
 
 impl Replay {
@@ -60,6 +67,9 @@ impl Replay {
             refused_by_23: 0,
             parents_entered: 0,
             parents_left: 0,
+            folded: 0,
+            respelling: 0,
+            respelling_left: 0,
         }
     }
 
@@ -81,6 +91,10 @@ impl Replay {
         self.open += usize::from(run.area[0] != 0);
         self.count_half_filling(&ground.schema, &run, &left);
         self.count_broken(&ground.schema, &run, &left);
+        self.folded += usize::from(ground.schema.any_folded());
+        self.respelling += run.respelling.len();
+        let respelling_left = left.iter().filter(|n| run.respelling.contains(n));
+        self.respelling_left += respelling_left.count();
         second_run(engine, &ground, &run, &left)
     }
 
@@ -110,13 +124,19 @@ impl Replay {
     ) -> Result<Run, String> {
         let (mut area, mut beside) = (made_fresh(engine, ground)?, ground.fresh());
         let (mut calls, mut codes, mut answers) = (Vec::new(), Vec::new(), Vec::new());
+        let mut respelling = Vec::new();
         for _ in 0..r.between(20, 200) {
             let mut call = mixed_calls::any(r, ground, &beside);
             if r.once_in(25) {
                 call = malformed::spoiled(r, ground, call);
             }
             answers.push(engine.call(&ground.bytes, &mut area, &call));
-            codes.push(self.model.call(&ground.bytes, &mut beside, &call).code);
+            let before = beside.clone();
+            let code = self.model.call(&ground.bytes, &mut beside, &call).code;
+            if code == 0 && respells(ground, &before, &beside) {
+                respelling.push(calls.len());
+            }
+            codes.push(code);
             calls.push(call);
             self.counted(engine, ground, &area)
                 .map_err(|why| told(ground, &calls, &why))?;
@@ -131,15 +151,13 @@ impl Replay {
             codes,
             answers,
             area,
+            respelling,
         })
     }
 
     /// Kept numbers are those counted from the rows; a commit sent next passes only if all are 0.
     fn counted(&self, engine: &dyn Engine, ground: &Ground, words: &[i64]) -> Outcome {
-        let area = Area {
-            schema: &ground.schema,
-            words: words.to_vec(),
-        };
+        let area = ground.area(words);
         let mut counts = orphan_counts(&self.model.rules, &area);
         counts.resize(32, 0);
         if area.kept() != counts {
@@ -171,6 +189,23 @@ fn half_fills(schema: &Schema, call: &[i64]) -> bool {
     let of_table = |key: &&Key| key.child as i64 == call[1] && key.matching == Match::Full;
     let mut keys = schema.keys.iter().filter(of_table);
     matches!(call[0], 1 | 2) && keys.any(is_half_filled)
+}
+
+/// Whether a live row comes to hold another spelling of what it held in a folded column.
+fn respells(ground: &Ground, before: &[i64], after: &[i64]) -> bool {
+    if !ground.schema.any_folded() {
+        return false;
+    }
+    let [before, after] = [before, after].map(|words| ground.area(words));
+    let mut tables = ground.schema.tables.iter().enumerate();
+    tables.any(|(number, table)| {
+        let mut rows = before.live_rows(number).into_iter();
+        rows.any(|(row, old)| {
+            let new = after.row(number, row).unwrap_or_default();
+            let equal = compared_key(&table.marks, &old) == compared_key(&table.marks, &new);
+            equal && old != new
+        })
+    })
 }
 
 /// Whether an accepted call enters a row into the parent table of a broken key.

@@ -6,19 +6,23 @@
 //! where another order gives another outcome. Among statements for many rows that leaves out those
 //! in which the change of one row decides about another: SQLite lists the rows first, then changes
 //! those that are still there, whatever they hold by then. Calls that SQLite judges otherwise
-//! because of a broken foreign key are left out too.
+//! because of a broken foreign key, or because a row refers to itself in another spelling, are left
+//! out too.
 //! SQLite lists orphans in a sequence of its own: they are sorted, and the engine's are taken as
 //! they come.
 
+use super::folded_seen::Seen;
 use super::origins::Origin;
 use super::searches::{how_many, is_search};
-use super::sqlite_statements;
 use super::walks::Walks;
+use super::watched;
+use super::{sqlite_names, sqlite_statements};
 use crate::counts::Counts;
 use crate::differences::hex;
 use crate::engine::{Answer, Engine, Orphan};
 use crate::inputs::grounds::{self, Ground};
 use crate::inputs::{broken_key_calls, broken_keys, calls, herds};
+use crate::inputs::{folded, folded_calls, spellings};
 use crate::model::area::Area;
 use crate::model::form::{self, Call};
 use crate::model::keys::having;
@@ -51,11 +55,16 @@ pub struct Alike {
     pub by_limit: usize,
     /// How many calls were left out because of a broken key.
     pub by_statement: usize,
+    /// How many calls were left out because a row comes to refer to itself in another spelling.
+    pub by_spelling: usize,
     /// How many calls on schemas with broken keys were compared: refused by 23, accepted, and among
     /// these inserts into the parent table of a broken key.
     pub refused_by_23: usize,
     pub beside_broken: usize,
     pub parents_entered: usize,
+    /// How many calls on schemas with folded columns were compared, and what they showed.
+    pub of_names: usize,
+    pub spellings: Counts<&'static str>,
     /// How many calls SQLite accepted by a miscount of its own.
     pub miscounted: usize,
     /// How many orphan lists were compared, and how many of them had orphans.
@@ -76,45 +85,67 @@ impl Alike {
             by_order: 0,
             by_limit: 0,
             by_statement: 0,
+            by_spelling: 0,
             refused_by_23: 0,
             beside_broken: 0,
             parents_entered: 0,
+            of_names: 0,
+            spellings: Counts::default(),
             miscounted: 0,
             lists: 0,
             with_orphans: 0,
         }
     }
 
-    /// One list of calls on a new database and a fresh area. SQLite has no other match than SIMPLE.
+    /// One list of calls on a new database and a fresh area. Some databases are of names, some of
+    /// whose columns are folded, the others of numbers. SQLite has no other match than SIMPLE.
     pub fn trial(&mut self, engine: &dyn Engine, r: &mut Random) -> Outcome {
-        let ground = match r.between(0, 6) {
+        let ground = match r.between(0, 10) {
             0 => broken_keys::ground(r),
             1 | 2 => herds::ground(r),
-            _ => grounds::collisions(r),
+            3..=6 => grounds::collisions(r),
+            _ => {
+                let ground = folded::ground(r, spellings::PRINTABLE).of_match_simple();
+                let database = Database::of_names(&ground.schema);
+                return self.calls(engine, r, (&ground, database), folded_calls::any);
+            }
         };
-        let ground = ground.of_match_simple();
-        let mut database = Database::new(&ground.schema);
+        let ground = ground.of_match_simple().unfolded();
+        let database = Database::new(&ground.schema);
+        self.calls(engine, r, (&ground, database), |r, ground, words| {
+            if r.once_in(3) {
+                calls::leading_to_actions(r, ground, words)
+            } else {
+                broken_key_calls::now_and_then(r, ground, words)
+            }
+        })
+    }
+
+    /// A list of calls, each made as it suits the area.
+    fn calls(
+        &mut self,
+        engine: &dyn Engine,
+        r: &mut Random,
+        (ground, mut database): (&Ground, Database),
+        make: fn(&mut Random, &Ground, &[i64]) -> Vec<i64>,
+    ) -> Outcome {
         let (mut area, mut beside) = (ground.fresh(), ground.fresh());
         let mut sent = Vec::new();
         for _ in 0..r.between(20, 120) {
-            let call = if r.once_in(3) {
-                calls::leading_to_actions(r, &ground, &beside)
-            } else {
-                broken_key_calls::now_and_then(r, &ground, &beside)
-            };
-            if self.left_out(&ground, &mut beside, &call) {
+            let call = make(r, ground, &beside);
+            if self.left_out(ground, &mut beside, &call) {
                 continue;
             }
             sent.push(call);
             let goes_on = self
-                .compare(engine, &ground, &mut area, &mut database, &sent)
-                .map_err(|why| told(&ground, &sent, &why))?;
+                .compare(engine, ground, &mut area, &mut database, &sent)
+                .map_err(|why| told(ground, &sent, &why))?;
             if !goes_on {
                 return Ok(());
             }
             if r.once_in(4) {
-                self.compare_list(engine, &ground, &area, &database)
-                    .map_err(|why| told(&ground, &sent, &why))?;
+                self.compare_list(engine, ground, &area, &database)
+                    .map_err(|why| told(ground, &sent, &why))?;
             }
         }
         Ok(())
@@ -144,9 +175,41 @@ impl Alike {
             self.by_statement += 1;
             return true;
         }
+        if self.differs_by_names(ground, beside, call, &own) {
+            self.by_spelling += 1;
+            return true;
+        }
         self.walks
             .count((&ground.bytes, beside, call), own.0, Origin::Reached);
         *beside = own.1;
+        false
+    }
+
+    /// Whether SQLite compares names otherwise. If not, and columns are folded, what the call shows is
+    /// counted.
+    fn differs_by_names(
+        &mut self,
+        ground: &Ground,
+        before: &[i64],
+        call: &[i64],
+        own: &Made,
+    ) -> bool {
+        if !ground.schema.any_folded() {
+            return false;
+        }
+        let rules = &self.orders[0].rules;
+        let made = watched::Made {
+            call: form::read(rules, &ground.schema, call).expect("the call is well-formed"),
+            code: own.0.code,
+            before: ground.area(before),
+            after: ground.area(&own.1),
+        };
+        if sqlite_names::differs(rules, &made.before, &made.call) {
+            return true;
+        }
+        self.of_names += 1;
+        let seen = Seen::new(rules, &made);
+        seen.shown().for_each(|name| self.spellings.add(name));
         false
     }
 
@@ -317,10 +380,7 @@ fn same_outcome(ground: &Ground, one: &Made, other: &Made) -> bool {
 
 /// The live rows of each table.
 fn rows(ground: &Ground, words: &[i64]) -> Vec<Vec<(usize, Row)>> {
-    let area = Area {
-        schema: &ground.schema,
-        words: words.to_vec(),
-    };
+    let area = ground.area(words);
     let tables = 0..ground.schema.tables.len();
     tables.map(|table| area.live_rows(table)).collect()
 }

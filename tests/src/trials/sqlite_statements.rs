@@ -2,7 +2,7 @@
 //! when it is prepared, by the columns that the statement and its actions set, whether rows are found
 //! or not.
 
-use super::broken_keys_seen::{self, Step};
+use super::trace::{Step, Trace};
 use crate::engine::Answer;
 use crate::model::area::Area;
 use crate::model::change::{uses, Kind};
@@ -20,8 +20,11 @@ pub fn differs(rules: &Rules, before: &Area, call: &Call, answer: Answer) -> boo
         (0, Call::Update(table, ..) | Call::Delete(table, _)) => leads_to_broken(schema, *table),
         (0, Call::Search(search)) => leads_to_broken(schema, search.table),
         (23, _) => {
-            let steps = broken_keys_seen::steps(rules, before, call);
-            !steps.last().map_or(false, |step| noticed(schema, step))
+            let trace = Trace::new(rules, &mut before.clone(), call);
+            !trace
+                .steps
+                .last()
+                .map_or(false, |step| noticed(schema, step))
         }
         _ => false,
     }

@@ -10,6 +10,8 @@ use crate::model::walk::Walk;
 /// A walk that was observed.
 pub struct Seen<'a> {
     walk: &'a Walk<'a>,
+    /// The old key. All keys here are as they are compared.
+    old_key: Row,
     /// The child keys of the rows when it began and when it ended: none where a row is vacant.
     first: Vec<Option<Row>>,
     last: Vec<Option<Row>>,
@@ -22,8 +24,8 @@ pub struct Seen<'a> {
 /// A child row that comes to its turn.
 struct Turn {
     number: usize,
-    /// The words in the columns of the key.
-    words: Vec<i64>,
+    /// The words in the columns of the key, as if none was NULL.
+    words: Row,
     /// The child key at its turn, and once what follows from it is finished.
     now: Option<Row>,
     after: Option<Row>,
@@ -86,7 +88,7 @@ const PASSED_OVER: &[Situation] = &[
         "a vacant row with old words not all 0",
         &[Filled, Damaged],
         |s| {
-            let zero = s.walk.old_key.iter().all(|&value| value == Some(0));
+            let zero = s.old_key.iter().all(|&value| value == Some(0));
             s.any_passed_over(|turn| turn.now.is_none() && s.has_words(turn) && !zero)
         },
     ),
@@ -116,6 +118,7 @@ impl<'a> Seen<'a> {
     pub fn new(area: &Area, walk: &'a Walk) -> Seen<'a> {
         Seen {
             walk,
+            old_key: walk.key.compared(&walk.old_key),
             first: child_keys(area, walk),
             last: Vec::new(),
             turns: Vec::new(),
@@ -128,9 +131,10 @@ impl<'a> Seen<'a> {
         let (key, change) = (self.walk.key, self.walk.change);
         let (_, values) = area.stored(key.child, number);
         let now = child_key(area, self.walk, number);
+        let words = key.child_columns.iter().map(|&c| Some(values[c])).collect();
         self.turns.push(Turn {
             number,
-            words: key.child_columns.iter().map(|&c| values[c]).collect(),
+            words: key.compared(&words),
             after: now.clone(),
             now,
             taken: false,
@@ -180,7 +184,7 @@ impl<'a> Seen<'a> {
 
     /// Whether a row is taken by a key of so many columns.
     fn takes_by(&self, columns: usize) -> bool {
-        self.walk.old_key.len() == columns && self.any_taken(|_| true)
+        self.old_key.len() == columns && self.any_taken(|_| true)
     }
 
     fn refused_late(&self, code: i64) -> bool {
@@ -194,11 +198,14 @@ impl<'a> Seen<'a> {
     }
 
     fn parent_key(&self, parent: &Option<Row>) -> Option<Row> {
-        parent.as_ref().map(|row| self.walk.key.parent_key(row))
+        let key = self.walk.key;
+        parent
+            .as_ref()
+            .map(|row| key.compared(&key.parent_key(row)))
     }
 
     fn is_old(&self, child_key: &Option<Row>) -> bool {
-        child_key.as_ref() == Some(&self.walk.old_key)
+        child_key.as_ref() == Some(&self.old_key)
     }
 
     /// Whether a child key is the parent's new key.
@@ -209,7 +216,7 @@ impl<'a> Seen<'a> {
 
     /// Whether a live row has such a value in a column of the key, given the old one beside it.
     fn any_column(&self, turn: &Turn, such: fn(Value, Value) -> bool) -> bool {
-        let mut pairs = turn.now.iter().flatten().zip(&self.walk.old_key);
+        let mut pairs = turn.now.iter().flatten().zip(&self.old_key);
         pairs.any(|(&now, &old)| such(now, old))
     }
 
@@ -221,25 +228,22 @@ impl<'a> Seen<'a> {
 
     /// Whether a live row has the old values of a composite key and another value in the last.
     fn differs_in_last(&self, turn: &Turn) -> bool {
-        let last = self.walk.old_key.len() - 1;
+        let last = self.old_key.len() - 1;
         let differs = |now: &Row| {
-            full(now)
-                && now[..last] == self.walk.old_key[..last]
-                && now[last] != self.walk.old_key[last]
+            full(now) && now[..last] == self.old_key[..last] && now[last] != self.old_key[last]
         };
         last > 0 && turn.now.as_ref().map_or(false, differs)
     }
 
     /// Whether the words in the columns of the key are the old values.
     fn has_words(&self, turn: &Turn) -> bool {
-        let words = turn.words.iter().map(|&word| Some(word));
-        words.eq(self.walk.old_key.iter().copied())
+        turn.words == self.old_key
     }
 }
 
 fn child_key(area: &Area, walk: &Walk, row: usize) -> Option<Row> {
     let live = area.row(walk.key.child, row);
-    live.map(|row| walk.key.child_key(&row))
+    live.map(|row| walk.key.compared(&walk.key.child_key(&row)))
 }
 
 fn child_keys(area: &Area, walk: &Walk) -> Vec<Option<Row>> {

@@ -1,0 +1,130 @@
+//! Calls and orphan lists of one sort: an engine against the model, with what is to be seen in them
+//! counted.
+
+use super::compared;
+use super::lent_list::LentLists;
+use super::origins::Origin;
+use crate::counts::Counts;
+use crate::engine::Engine;
+use crate::inputs::grounds::Ground;
+use crate::model::area::Area;
+use crate::model::form::{self, Call};
+use crate::model::rules::Rules;
+use crate::model::Model;
+use crate::random::Random;
+
+type Outcome = Result<(), String>;
+
+/// How many calls are made on one schema.
+const TURNS: usize = 12;
+
+/// What calls are of a sort: where they start, what damages an area, and what they show by name.
+pub struct Sort {
+    pub start: fn(&mut Random) -> Start,
+    pub damaged: fn(&mut Random, &Ground, &[i64]) -> Vec<i64>,
+    pub shown: fn(&Rules, &Made) -> Vec<&'static str>,
+    /// What an accepted list of this area shows.
+    pub shown_by_list: fn(&Area) -> Vec<&'static str>,
+}
+
+/// A schema, an area of it, where that comes from, and how a well-formed call is made that suits an
+/// area.
+pub struct Start {
+    pub ground: Ground,
+    pub area: Vec<i64>,
+    pub origin: Origin,
+    pub call: fn(&mut Random, &Ground, &[i64]) -> Vec<i64>,
+}
+
+/// A call that was compared, its code, and the area before it and after it.
+pub struct Made<'a> {
+    pub call: Call,
+    pub code: i64,
+    pub before: Area<'a>,
+    pub after: Area<'a>,
+}
+
+pub struct Watched {
+    sort: &'static Sort,
+    model: Model,
+    /// How many calls had each code.
+    pub codes: Counts<i64>,
+    /// How many calls and lists showed each situation on the areas of each origin.
+    pub met: [Counts<&'static str>; 3],
+    pub lists: LentLists,
+}
+
+impl Watched {
+    pub fn new(sort: &'static Sort) -> Watched {
+        Watched {
+            sort,
+            model: Model::of_the_paper(),
+            codes: Counts::default(),
+            met: Default::default(),
+            lists: LentLists::new(),
+        }
+    }
+
+    /// A few calls on one schema, and beside some of them the same on damaged copies of the area.
+    pub fn trial(&mut self, engine: &dyn Engine, r: &mut Random) -> Outcome {
+        let start = (self.sort.start)(r);
+        let (ground, mut area) = (&start.ground, start.area);
+        for _ in 0..TURNS {
+            let call = (start.call)(r, ground, &area);
+            if r.once_in(2) {
+                let damaged = (self.sort.damaged)(r, ground, &area);
+                self.call(engine, ground, (&damaged, &call), Origin::Damaged)?;
+                self.list(engine, r, (ground, &damaged), Origin::Damaged)?;
+            }
+            area = self.call(engine, ground, (&area, &call), start.origin)?;
+            self.list(engine, r, (ground, &area), start.origin)?;
+        }
+        Ok(())
+    }
+
+    /// Compares a call. Gives the area after it.
+    fn call(
+        &mut self,
+        engine: &dyn Engine,
+        ground: &Ground,
+        (area, call): (&[i64], &[i64]),
+        origin: Origin,
+    ) -> Result<Vec<i64>, String> {
+        let input = (&ground.bytes[..], area, call);
+        let (answer, after) = compared::call(engine, &self.model, input)?;
+        self.codes.add(answer.code);
+        let rules = &self.model.rules;
+        let made = Made {
+            call: form::read(rules, &ground.schema, call).expect("the call is well-formed"),
+            code: answer.code,
+            before: ground.area(area),
+            after: ground.area(&after),
+        };
+        let shown = (self.sort.shown)(rules, &made);
+        self.count(origin, shown);
+        Ok(after)
+    }
+
+    /// Compares an orphan list once in four times.
+    fn list(
+        &mut self,
+        engine: &dyn Engine,
+        r: &mut Random,
+        (ground, area): (&Ground, &[i64]),
+        origin: Origin,
+    ) -> Outcome {
+        if r.once_in(4) {
+            let compared = self.lists.compare(engine, r, &ground.bytes, area)?;
+            if compared.code == 0 {
+                let shown = (self.sort.shown_by_list)(&ground.area(area));
+                self.count(origin, shown);
+            }
+        }
+        Ok(())
+    }
+
+    fn count(&mut self, origin: Origin, shown: Vec<&'static str>) {
+        let met = &mut self.met[origin as usize];
+        shown.into_iter().for_each(|situation| met.add(situation));
+    }
+}
