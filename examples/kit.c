@@ -6,7 +6,9 @@
  * have one when the transaction is committed.
  *
  * A second book is half drawn: its readings name a sensor, and there is no table of sensors yet. Horses and trims
- * can be entered meanwhile, readings cannot. */
+ * can be entered meanwhile, readings cannot.
+ *
+ * In a third book horses have names in place of numbers, and capitals do not count in them: the column is folded. */
 #include "hoofbook.h"
 
 #include <inttypes.h>
@@ -19,6 +21,8 @@ enum { HEADER = 16, TABLE = 80, KEY = 16, KEYS = 2, JOURNAL = 8 };
 enum { KEYS_AT = HEADER + TABLES * TABLE, SCHEMA = KEYS_AT + KEYS * KEY };
 enum { HORSE = 1 }; /* the column of trims and readings that names their horse, or the readings' sensor */
 enum { DEFERRED = 1, CASCADE = 4 };
+enum { FOLDED_AT = 9, PLAIN = 0, FOLDED = 1 }; /* byte 9 of the horses' record: column 0 is plain or folded */
+enum { Ada = 0x616441, ADA = 0x414441, ada = 0x616461, Ida = 0x616449 }; /* the lowest byte is the first letter */
 
 static void put16(uint8_t *at, unsigned value)
 {
@@ -51,8 +55,8 @@ static void put_key(uint8_t *at, unsigned child, unsigned parent)
     at[10] = 0;
 }
 
-/* A reading names a row of the table given. */
-static void put_schema(uint8_t schema[SCHEMA], unsigned parent_of_readings)
+/* A reading names a row of the table given; the column of the horses is folded or plain. */
+static void put_schema(uint8_t schema[SCHEMA], unsigned parent_of_readings, unsigned folded)
 {
     const unsigned fields[] = {TABLES, KEYS, HEADER, KEYS_AT, JOURNAL, SCHEMA};
     schema[0] = 0x46;
@@ -62,6 +66,7 @@ static void put_schema(uint8_t schema[SCHEMA], unsigned parent_of_readings)
     for (int i = 0; i < 6; i++)
         put16(schema + 4 + 2 * i, fields[i]);
     put_table(schema + HEADER + HORSES * TABLE, HORSE_ROWS, 1);
+    schema[HEADER + HORSES * TABLE + FOLDED_AT] = (uint8_t)folded;
     put_table(schema + HEADER + TRIMS * TABLE, TRIM_ROWS, 2);
     put_table(schema + HEADER + READINGS * TABLE, READING_ROWS, 2);
     put_key(schema + KEYS_AT, TRIMS, HORSES);
@@ -111,6 +116,15 @@ static const struct step half_drawn[] = {
     {"delete horse 7 and its trim", {HOOFBOOK_DELETE, HORSES, 0}},
 };
 
+/* A new spelling of the horse's name changes its own row alone; its trim follows a new name. */
+static const struct step names[] = {
+    {"insert horse Ada", {HOOFBOOK_INSERT, HORSES, 0, 0, Ada}},
+    {"insert trim 1 of horse ADA", {HOOFBOOK_INSERT, TRIMS, 0, 0, 1, ADA}},
+    {"insert a second horse ada", {HOOFBOOK_INSERT, HORSES, 1, 0, ada}},
+    {"respell horse Ada as ada", {HOOFBOOK_UPDATE, HORSES, 0, 0, ada}},
+    {"rename horse ada to Ida", {HOOFBOOK_UPDATE, HORSES, 0, 0, Ida}},
+};
+
 static void carry_out(struct book *book, const struct step *steps, size_t count)
 {
     for (const struct step *step = steps; step < steps + count; step++) {
@@ -131,10 +145,10 @@ static void list_orphans(const struct book *book)
 }
 
 /* A book with a fresh area. */
-static struct book open_book(unsigned parent_of_readings)
+static struct book open_book(unsigned parent_of_readings, unsigned folded)
 {
     struct book book = {{0}, NULL, 0};
-    put_schema(book.schema, parent_of_readings);
+    put_schema(book.schema, parent_of_readings, folded);
     book.words = (size_t)hoofbook_area_words(book.schema, SCHEMA);
     book.area = (int64_t *)calloc(book.words + 1, sizeof *book.area);
     if (book.area == NULL || hoofbook_make_fresh(book.schema, SCHEMA, book.area, book.words) != HOOFBOOK_DONE) {
@@ -146,14 +160,17 @@ static struct book open_book(unsigned parent_of_readings)
 
 int main(void)
 {
-    struct book book = open_book(HORSES);
+    struct book book = open_book(HORSES, PLAIN);
     carry_out(&book, entries, sizeof entries / sizeof *entries);
     list_orphans(&book);
     carry_out(&book, closing, sizeof closing / sizeof *closing);
     free(book.area);
-    book = open_book(SENSORS);
+    book = open_book(SENSORS, PLAIN);
     printf("half-drawn schema: %" PRId64 "\n", hoofbook_check_schema(book.schema, SCHEMA));
     carry_out(&book, half_drawn, sizeof half_drawn / sizeof *half_drawn);
+    free(book.area);
+    book = open_book(HORSES, FOLDED);
+    carry_out(&book, names, sizeof names / sizeof *names);
     free(book.area);
     return 0;
 }

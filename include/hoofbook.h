@@ -82,7 +82,12 @@ typedef struct {
 /* 0 where the schema is accepted, else 1. It may be half drawn: a foreign key is broken if the parent table or a
  * parent column is not there, or if the parent columns are not exactly those of a unique key. A row change that
  * inserts or updates a row of its child table, or updates or deletes a row of its parent table, uses it and is
- * refused by 23; deleting a child row and inserting a parent row do not use it. Its actions never run. */
+ * refused by 23; deleting a child row and inserting a parent row do not use it. Its actions never run.
+ *
+ * Byte 9 of a table record is the mask of its folded columns, for names that differ in capitals. The bytes of such a
+ * value are the name's characters, the first the lowest: "Lf2" is 0x32664C. Two values of a folded column are equal
+ * if their eight bytes are equal once 41 to 5A (hexadecimal) are raised by 20. Unique keys and kinds 10 and 11 go by
+ * the column's own mark, a foreign key by those of its parent columns. Values are stored as they are given. */
 int64_t hoofbook_check_schema(const uint8_t *schema, size_t schema_len);
 
 /* The length in words of an area for the schema; 0 where the schema is refused. */

@@ -18,12 +18,14 @@ from booktext.runner import run_hoofrun, run_text
 from booktext.writer import text_of
 from tooltests.broken_keys import check_broken_keys
 from tooltests.checks import Checks, tool
+from tooltests.folded import check_folded
 from tooltests.half_drawn import check_half_drawn
 from tooltests.hoofask import check_build, check_hoofask
 from tooltests.inputs import damaged, whole_input
 from tooltests.many_rows import check_many_rows
 from tooltests.matches import check_matches
 from tooltests.mistakes import TABLES, all_mistakes
+from tooltests.names import check_names
 from tooltests.orphans import check_orphans
 
 RANDOM_INPUTS = 400
@@ -43,43 +45,48 @@ PAPER_ANSWERS = [
 
 EVERY_FIELD = """\
 table a rows 3
-  column x not null default -2   # a comment
+  column x folded not null default -2   # a comment
   unique (x)
   column y unique default null
   unique (y, x)
 table b rows 1024
-  column x default 7
+  column x folded default "Lf 2"
+  column y default "#"            # "
 
 key a.(y, x) -> a.(x, y) match full on delete set null on update set default
 key b.x -> a.y match simple on delete no action on update restrict deferred
 journal 4096
 update a 2 y=null x=-9
+delete b where x = "L#"
 rollback to 2
 words 1 2 3 4 5 6 7 8 9 10 11 -12
 bytes 0a FF
 """
 EVERY_FIELD_BYTES = (
     struct.pack("<4s6H", b"FKB1", 2, 2, 16, 176, 4096, 208)
-    + struct.pack("<HBB4BB7x8q", 3, 2, 1, 1, 2, 3, 0, 2, -2, 0, 0, 0, 0, 0, 0, 0)
-    + struct.pack("<HBB4BB7x8q", 1024, 1, 0, 0, 0, 0, 0, 0, 7, 0, 0, 0, 0, 0, 0, 0)
+    + struct.pack("<HBB4BBB6x8q", 3, 2, 1, 1, 2, 3, 0, 2, 1, -2, 0, 0, 0, 0, 0, 0, 0)
+    + struct.pack("<HBB4BBB6x8q", 1024, 2, 0, 0, 0, 0, 0, 0, 1, 0x3220664C, 0x23, 0, 0, 0, 0, 0, 0)
     + bytes([0, 0, 0, 2, 3, 2, 1, 0, 255, 255, 0, 1, 255, 255, 1, 0])
     + bytes([1, 0, 1, 0, 1, 1, 0, 255, 255, 255, 1, 255, 255, 255, 0, 0])
     + struct.pack("<12q", 2, 0, 2, 2, -9, 0, 0, 0, 0, 0, 0, 0)
+    + struct.pack("<12q", 10, 1, 0, 0, 0x234C, 0, 0, 0, 0, 0, 0, 0)
     + struct.pack("<12q", 7, 2, 0, 0, 0, 0, 0, 0, 0, 0, 0, 0)
     + struct.pack("<12q", 1, 2, 3, 4, 5, 6, 7, 8, 9, 10, 11, -12)
     + b"\x0a\xff"
 )
 DECODED = """\
 table t0 rows 3
-  column c0 not null unique default -2
+  column c0 folded not null unique default -2
   column c1 unique default null
   unique (c0, c1)
 table t1 rows 1024
-  column c0 default 7
+  column c0 folded default "Lf 2"
+  column c1 default 35
 key t0.(c1, c0) -> t0.(c0, c1) match full on delete set null on update set default
 key t1.c0 -> t0.c1 on update restrict deferred
 journal 4096
 update t0 2 c0=-9 c1=null
+delete t1 where c0 = "L#"
 rollback to 2
 words 1 2 3 4 5 6 7 8 9 10 11 -12
 bytes 0A FF
@@ -122,7 +129,8 @@ def check_round_trips(checks):
         texts += text
     for start in (
         r"key .* match full", r"key .* -> \?", r"key .* -> t\d+\.\S*\?", r"delete \S+ where ",
-        r"update \S+ set ", "words 10 ", "words 11 ",
+        r"update \S+ set ", "words 10 ", "words 11 ", r"  column \S+ folded", '  column .* default "',
+        'insert .*="Lf2"', r'update \S+ set \S+="', 'delete .* = "Lf2"', 'update .*="Lf2 #~Az"',
     ):
         checks.check(f"random inputs with {start}", re.search(f"^{start}", texts, re.MULTILINE))
 
@@ -230,8 +238,8 @@ def main():
     checks = Checks()
     for run in (
         check_build, check_encoding, check_round_trips, check_mistakes, check_many_rows, check_matches,
-        check_half_drawn, check_broken_keys, check_runs, check_hoofask, check_orphans, check_commands,
-        check_command_faults, check_blocks,
+        check_half_drawn, check_broken_keys, check_names, check_folded, check_runs, check_hoofask,
+        check_orphans, check_commands, check_command_faults, check_blocks,
     ):
         try:
             run(checks)

@@ -2,6 +2,8 @@
 
 import struct
 
+from .names import name_of
+
 CALL = struct.Struct("<12q")
 ROW_KINDS = {"insert": 1, "update": 2, "delete": 3}
 WHERE_KINDS = {"delete": 10, "update": 11}  # every row whose column has a sought value
@@ -26,15 +28,19 @@ def where_words(table, sought, given=None):
     return (kind, table, column, mask, value or 0, set_column, set_value or 0, *[0] * 5)
 
 
-def value_text(value):
-    """A value as it is written."""
-    return "null" if value is None else str(value)
+def value_text(column, value):
+    """A value of a column as it is written: in a folded column as a name, where it is one."""
+    if value is None:
+        return "null"
+    name = name_of(value) if column.folded else None
+    return f'"{name}"' if name else str(value)
 
 
 def cell_text(table, cell, equals="="):
     """COLUMN=VALUE of a cell."""
-    column, value = cell
-    return table.columns[column].name + equals + value_text(value)
+    number, value = cell
+    column = table.columns[number]
+    return column.name + equals + value_text(column, value)
 
 
 def row_call_text(verb, schema, words):

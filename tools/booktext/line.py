@@ -2,8 +2,9 @@
 
 import re
 
-WORD = re.compile(r"->|-?[0-9]+|[A-Za-z_][A-Za-z0-9_]*|[(),.=?]")
+WORD = re.compile(r'->|-?[0-9]+|[A-Za-z_][A-Za-z0-9_]*|[(),.=?]|"[^"]*"')
 BLANKS = re.compile(r"\s*")
+BEFORE_COMMENT = re.compile(r'([^"#]|"[^"]*"?)*')  # a # between quotes begins no comment
 LONGEST_NUMBER = 20  # characters of the least 64-bit number
 
 
@@ -20,7 +21,7 @@ class Line:
 
     def __init__(self, number, text):
         self.line_number = number
-        self.text = text.split("#")[0].rstrip()
+        self.text = BEFORE_COMMENT.match(text).group().rstrip()
         self.words = None
         self.next = 0
 
@@ -38,6 +39,8 @@ class Line:
         self.words, at = [], BLANKS.match(self.text).end()
         while at < len(self.text):
             word = WORD.match(self.text, at)
+            if not word and self.text[at] == '"':
+                self.fail("expected a second quote after '\"', found the end of the line")
             if not word:
                 self.fail(f"expected a name, a number or one of -> ( ) , . = ?, found {self.text[at]!r}")
             self.words.append(word.group())
@@ -85,6 +88,17 @@ class Line:
             self.fail(f"expected {what} from {least} to {most}, found {word}")
         self.next += 1
         return int(word)
+
+    def at_quote(self):
+        """Whether something in quotes comes next."""
+        word = self.peek()
+        return bool(word) and word[0] == '"'
+
+    def quoted(self):
+        """Takes what comes next in quotes, and gives it without them."""
+        word = self.peek()
+        self.next += 1
+        return word[1:-1]
 
     def end(self):
         """Nothing may follow."""

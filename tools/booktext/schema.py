@@ -11,7 +11,7 @@ MOST_UNIQUE = 4
 MOST_KEY_COLUMNS = 4
 
 HEADER = struct.Struct("<4s6H")  # magic, T, F, offset of tables, offset of foreign keys, J, length
-TABLE = struct.Struct("<HBB4sB7x8q")  # R, C, NOT NULL, unique masks, default-is-NULL, defaults
+TABLE = struct.Struct("<HBB4sBB6x8q")  # R, C, NOT NULL, unique masks, default-is-NULL, folded, defaults
 FOREIGN_KEY = struct.Struct("<6B4s4sBx")  # child, parent, deferred, actions, n, columns of both, match
 NO_COLUMN = 255
 
@@ -21,6 +21,7 @@ class Column:
     """A column; its default is an integer, or None for NULL."""
 
     name: str
+    folded: bool = False
     not_null: bool = False
     default: int | None = 0
 
@@ -105,9 +106,10 @@ def table_bytes(table):
     masks = [mask_of(key) for key in table.unique] + [0] * (MOST_UNIQUE - len(table.unique))
     not_null = mask_of(c for c, column in enumerate(columns) if column.not_null)
     null_default = mask_of(c for c, column in enumerate(columns) if column.default is None)
+    folded = mask_of(c for c, column in enumerate(columns) if column.folded)
     defaults = [column.default or 0 for column in columns] + [0] * (MOST_COLUMNS - len(columns))
     return TABLE.pack(
-        table.rows, len(columns), not_null, bytes(masks), null_default, *defaults
+        table.rows, len(columns), not_null, bytes(masks), null_default, folded, *defaults
     )
 
 
@@ -132,11 +134,12 @@ def schema_bytes(schema):
 
 def read_table(number, record):
     """The table that a record says, its columns named c0, c1 and so on."""
-    rows, count, not_null, masks, null_default, *defaults = TABLE.unpack(record)
+    rows, count, not_null, masks, null_default, folded, *defaults = TABLE.unpack(record)
     table = Table(f"t{number}", rows)
     for c in range(min(count, MOST_COLUMNS)):
         default = None if null_default >> c & 1 else defaults[c]
-        table.columns.append(Column(f"c{c}", bool(not_null >> c & 1), default))
+        marks = (bool(mask >> c & 1) for mask in (folded, not_null))
+        table.columns.append(Column(f"c{c}", *marks, default))
     table.unique = [columns_in(mask, count) for mask in masks if mask]
     return table
 

@@ -1,6 +1,7 @@
 """Reads the lines of a schema: tables, columns, unique keys, foreign keys, the journal."""
 
 from .calls import LEAST_WORD, MOST_WORD
+from .names import name_fault, name_value
 from .schema import ACTIONS, MATCHES, MOST_COLUMNS, MOST_KEY_COLUMNS, MOST_UNIQUE
 from .schema import Column, ForeignKey, Table, undrawn_name
 
@@ -43,21 +44,22 @@ class SchemaLines:
         self.schema.tables.append(self.table)
 
     def read_column(self, line):
-        """column NAME [not null] [unique] [default N | default null]"""
+        """column NAME [folded] [not null] [unique] [default VALUE]"""
         table = self.current_table(line)
         name = line.name("the column's name")
         if table.column_number(name) is not None:
             line.fail(f"expected a new name, but table {table.name} has a column {name} already")
         if len(table.columns) == MOST_COLUMNS:
             line.fail(f"expected at most {MOST_COLUMNS} columns in a table")
-        column = Column(name, line.accept("not null"))
+        column = Column(name, line.accept("folded"), line.accept("not null"))
         table.columns.append(column)
         if line.accept("unique"):
             self.add_unique(line, [len(table.columns) - 1])
         if line.accept("default"):
             column.default = read_value(line)
         if line.peek() is not None:
-            line.expected("'not null', 'unique', 'default' in this order, each at most once")
+            words = "'folded', 'not null', 'unique', 'default'"
+            line.expected(f"{words} in this order, each at most once")
 
     def read_unique(self, line):
         """unique (COLUMN, ...)"""
@@ -208,7 +210,18 @@ def read_choice(line, phrases):
 
 
 def read_value(line):
-    """A whole number of 64 bits, or null, which is None."""
+    """A name in quotes, null, which is None, or a whole number of 64 bits."""
+    if line.at_quote():
+        return read_name(line)
     if line.accept("null"):
         return None
-    return line.number("a whole number or null", LEAST_WORD, MOST_WORD)
+    return line.number("a name in quotes, null or a whole number", LEAST_WORD, MOST_WORD)
+
+
+def read_name(line):
+    """The value of the name that comes next in quotes."""
+    name = line.quoted()
+    fault = name_fault(name)
+    if fault:
+        line.fail(fault)
+    return name_value(name)

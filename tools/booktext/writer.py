@@ -30,12 +30,14 @@ def table_lines(table):
     lines = [f"table {table.name} rows {table.rows}"]
     for c, column in enumerate(table.columns):
         line = f"  column {column.name}"
+        if column.folded:
+            line += " folded"
         if column.not_null:
             line += " not null"
         if [c] in table.unique[:on_columns]:
             line += " unique"
         if column.default != 0:
-            line += f" default {value_text(column.default)}"
+            line += f" default {value_text(column, column.default)}"
         lines.append(line)
     for key in table.unique[on_columns:]:
         names = ", ".join(table.columns[c].name for c in key)

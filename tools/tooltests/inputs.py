@@ -2,7 +2,11 @@
 
 import struct
 
-WORDS = (0, 1, 2, 3, 5, 7, 8, 9, -1, 255, 256, 1 << 31, (1 << 63) - 1, -(1 << 63))
+LF2 = 0x32664C  # the name "Lf2"
+WORDS = (
+    0, 1, 2, 3, 5, 7, 8, 9, -1, 255, 256, 1 << 31, (1 << 63) - 1, -(1 << 63),
+    LF2, -LF2, LF2 | 0x7F << 24, LF2 | 0x7E << 56, int.from_bytes(b"Lf2 #~Az", "little"),
+)
 
 
 def pick_columns(random, count, most):
@@ -20,8 +24,9 @@ def table_record(random, columns):
         if not null_default >> c & 1:
             defaults[c] = random.choice(WORDS)
     masks = [random.randint(0, below)] + unique + [0] * (4 - len(unique)) + [null_default]
+    masks.append(random.randint(0, below))  # of folded columns
     rows = random.choice((1, 4, 30, 1024, 0, 65535))
-    return struct.pack("<HB6B7x8q", rows, columns, *masks, *defaults)
+    return struct.pack("<HB7B6x8q", rows, columns, *masks, *defaults)
 
 
 def key_record(random, widths):

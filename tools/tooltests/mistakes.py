@@ -24,10 +24,12 @@ SCHEMA_MISTAKES = [
     ("column number\n", 1, "expected a table line above"),
     ("table a rows 1\n  column\n", 2, "expected the column's name"),
     ("table a rows 1\n  column x\n  column x\n", 3, "has a column x already"),
-    ("table a rows 1\n  column x null\n", 2, "expected 'not null', 'unique', 'default'"),
+    ("table a rows 1\n  column x null\n", 2, "expected 'folded', 'not null', 'unique', 'default'"),
     ("table a rows 1\n  column x unique not null\n", 2, "found 'not'"),
-    ("table a rows 1\n  column x default\n", 2, "expected a whole number or null"),
-    ("table a rows 1\n  column x default big\n", 2, "whole number or null, found 'big'"),
+    ("table a rows 1\n  column x not null folded\n", 2, "each at most once, found 'folded'"),
+    ("table a rows 1\n  column x folded folded\n", 2, "each at most once, found 'folded'"),
+    ("table a rows 1\n  column x default\n", 2, "expected a name in quotes, null or a whole number"),
+    ("table a rows 1\n  column x default big\n", 2, "null or a whole number, found 'big'"),
     ("table a rows 1\n  column x default 9223372036854775808\n", 2, "to 9223372036854775807"),
     ("table a rows 1\n  column x\n  unique x\n", 3, "expected columns in parentheses"),
     ("table a rows 1\n  column x\n  unique (y)\n", 3, "expected a column of a (x), found 'y'"),
@@ -111,8 +113,8 @@ CALL_MISTAKES = [
     ("insert trims 0 number=1 horse=2 horse=3", "horse is given twice"),
     ("insert trims 0 number=1 hoof=2", "expected a column of trims (number, horse), found 'hoof'"),
     ("insert trims 0 number 1 horse=2", "expected '=', found '1'"),
-    ("insert trims 0 number= horse=2", "expected a whole number or null, found 'horse'"),
-    ("insert trims 0 number=1 horse=NULL", "expected a whole number or null, found 'NULL'"),
+    ("insert trims 0 number= horse=2", "null or a whole number, found 'horse'"),
+    ("insert trims 0 number=1 horse=NULL", "null or a whole number, found 'NULL'"),
     ("insert trims 0 number=1 horse=-9223372036854775809", "from -9223372036854775808"),
     ("insert trims 0 number=1.5 horse=2", "found '.'"),
     ("delete trims", "expected a row number or 'where', found the end of the line"),
@@ -141,8 +143,8 @@ WHERE_MISTAKES = [
     ("delete trims where hoof = 5", "expected a column of trims (number, horse), found 'hoof'"),
     ("delete trims where horse 5", "expected '=', found '5'"),
     ("delete trims where horse is null", "expected '=', found 'is'"),
-    ("delete trims where horse =", "expected a whole number or null, found the end of the line"),
-    ("delete trims where horse = number", "expected a whole number or null, found 'number'"),
+    ("delete trims where horse =", "null or a whole number, found the end of the line"),
+    ("delete trims where horse = number", "null or a whole number, found 'number'"),
     ("delete trims where horse = 9223372036854775808", "to 9223372036854775807, found 92233720"),
     ("delete trims where horse = 5 and number = 1", "expected the end of the line, found 'and'"),
     ("update trims horse=6", "expected a row number or 'set', found 'horse'"),
@@ -155,6 +157,48 @@ WHERE_MISTAKES = [
     ("update trims set horse=6 number=7 where horse = 5", "(one column is set), found 'number'"),
     ("update trims set horse=6, number=7 where horse = 5", "(one column is set), found ','"),
     ("update trims set horse=6 where horse = 5 6", "expected the end of the line, found '6'"),
+]
+
+# Names as values: what is between the quotes, and quotes where no value may stand.
+VALUE_NAME_MISTAKES = [
+    ('insert trims 0 number=1 horse="Lf2345678"', "expected a name of 1 to 8 characters, found 9"),
+    ('insert trims 0 number=1 horse=""', "expected a name of 1 to 8 characters, found 0"),
+    ('insert trims 0 number=1 horse="Läf"', "from space to ~ but \\ in a name, found 'ä'"),
+    ('insert trims 0 number="Lf\t2" horse=1', "in a name, found '\\t'"),
+    ('insert trims 0 number="Lf2\x7f" horse=1', "in a name, found '\\x7f'"),
+    ('insert trims 0 number="Lf2\x00" horse=1', "in a name, found '\\x00'"),
+    ('insert trims 0 number="Lf\\2" horse=1', "in a name, found '\\\\'"),
+    ('insert trims 0 number="Läufer und Gänger" horse=1', "in a name, found 'ä'"),
+    ('update trims 0 number=1 horse="Lf2', "a second quote after '\"', found the end of the line"),
+    ('update trims 0 number=1 horse="Lf2 # a comment', "a second quote after '\"', found the end"),
+    ('update trims 0 number=1 horse=Lf2"', "expected a second quote after '\"', found the end"),
+    ('update trims 0 number=1 horse=Lf2', "a name in quotes, null or a whole number, found 'Lf2'"),
+    ("update trims 0 number=1 horse='Lf2'", "-> ( ) , . = ?, found \"'\""),
+    ('update trims 0 number=1 horse=-"Lf2"', "found '-'"),
+    ('update trims 0 number=1 horse="Lf" "2"', "a column of trims (number, horse), found '\"2\"'"),
+    ('update trims 0 number=1 "horse"="Lf2"', "a column of trims (number, horse), found '\"horse\"'"),
+    ('update trims "0" number=1 horse=2', "expected a row number or 'set', found '\"0\"'"),
+    ('update trims set horse="Lf2" where horse = "Lf23456 8"', "of 1 to 8 characters, found 9"),
+    ('update trims set horse="Lf\r2" where horse = "Lf2"', "in a name, found '\\r'"),
+    ('delete trims where horse = "Lf2" "Lf3"', "expected the end of the line, found '\"Lf3\"'"),
+    ('delete trims where "horse" = 2', "a column of trims (number, horse), found '\"horse\"'"),
+    ('delete "trims" 0', "the name of a table (horses, trims), found '\"trims\"'"),
+    ('delete trims "0"', "expected a row number or 'where', found '\"0\"'"),
+    ('"begin"', "release, rollback, commit, words or bytes, found '\"begin\"'"),
+    ('rollback to "1"', "expected a level, found '\"1\"'"),
+    ('words "Lf2" 0 0 0 0 0 0 0 0 0 0 0', "expected a word, found '\"Lf2\"'"),
+    ('bytes "46"', "expected bytes of two hexadecimal digits, found '\"46\"'"),
+]
+SCHEMA_NAME_MISTAKES = [
+    ('table "a" rows 1\n', 1, "expected the table's name, found '\"a\"'"),
+    ('table a rows "1"\n', 1, "expected the number of rows, found '\"1\"'"),
+    ('table a rows 1\n  column "x"\n', 2, "expected the column's name, found '\"x\"'"),
+    ('table a rows 1\n  column x "Lf2"\n', 2, "each at most once, found '\"Lf2\"'"),
+    ('table a rows 1\n  column x folded default ""\n', 2, "of 1 to 8 characters, found 0"),
+    ('table a rows 1\n  column x default "Lf2\n', 2, "expected a second quote after '\"'"),
+    ('table a rows 1\n  column x default "Lf2" unique\n', 2, "in this order, each at most once"),
+    ('table a rows 1\n  column x\n  unique ("x")\n', 3, "expected a column of a (x), found '\"x\"'"),
+    ('journal "8"\n', 1, "expected the number of journal records, found '\"8\"'"),
 ]
 
 LATE_TABLE = "key trims.horse -> ?sensors.?number\ntable sensors rows 4\n"
@@ -184,9 +228,10 @@ def all_mistakes():
     """Triples of a text, the line of its mistake and a part of the message."""
     before_journal, at_key = TABLES.rsplit("journal", 1)[0], 8
     yield from SCHEMA_MISTAKES
+    yield from SCHEMA_NAME_MISTAKES
     for line, message in KEY_MISTAKES + UNDRAWN_KEY_MISTAKES:
         yield before_journal + line + "\njournal 8\n", at_key, message
-    for line, message in CALL_MISTAKES + WHERE_MISTAKES:
+    for line, message in CALL_MISTAKES + WHERE_MISTAKES + VALUE_NAME_MISTAKES:
         yield TABLES + "\n# calls\n" + line + "\ncommit\n", 11, message
     yield from NUMBER_MISTAKES
     yield from ORDER_MISTAKES
