@@ -1,5 +1,7 @@
 """How the cost of one statement grows with the rows of its tables."""
 
+from functools import partial
+
 from inputs import BEGIN, DELETE, INSERT, ROLLBACK, UPDATE, Calls
 from loads import trims_text
 
@@ -45,36 +47,42 @@ def add_statement(calls, rows, statement, i):
         calls.add(kind, table, row, values(row))
 
 
-def batches(rows, statement, count):
-    """So many transactions that are rolled back; without a statement they are empty."""
+def growing_book(rows, statement):
+    """The calls that fill the tables, and what adds a statement of a given number to them."""
     calls = filled(rows)
+    return calls, partial(add_statement, calls, rows, statement)
+
+
+def batches(book, count, statements=BATCH):
+    """The calls of a book, then so many transactions of its statements that are rolled back."""
+    calls, add = book()
     for _ in range(count):
         calls.add(BEGIN)
-        for i in range(BATCH if statement else 0):
-            add_statement(calls, rows, statement, i)
+        for i in range(statements):
+            add(i)
         calls.add(ROLLBACK)
     return calls.to_bytes()
 
 
-def seconds(sides, rows, statement, count, runs):
+def seconds(sides, book, count, runs):
     """What the statements of so many batches take, with their undo, on each side."""
-    whole = sides.best(batches(rows, statement, count), runs)
-    empty = sides.best(batches(rows, None, count), runs)
+    whole = sides.best(batches(book, count), runs)
+    empty = sides.best(batches(book, count, 0), runs)
     return [a - b for a, b in zip(whole, empty)]
 
 
-def cost(sides, rows, statement):
+def cost(sides, book):
     """Nanoseconds of one statement with its undo, on each side."""
     count = 25
-    while count < MOST_BATCHES and min(seconds(sides, rows, statement, count, 1)) < LEAST_SECONDS:
+    while count < MOST_BATCHES and min(seconds(sides, book, count, 1)) < LEAST_SECONDS:
         count *= 4
-    return [spent / (count * BATCH) * 1e9 for spent in seconds(sides, rows, statement, count, 3)]
+    return [spent / (count * BATCH) * 1e9 for spent in seconds(sides, book, count, 3)]
 
 
 def print_growth(sides):
     """Two lines for each statement, hoofrun's and SQLite's cost at each number of rows."""
     print(f"{'nanoseconds a statement':32}" + "".join(f"{f'R = {rows:,}':>12}" for rows in ROWS))
     for statement in (*STATEMENTS, *SEARCHES):
-        costs = zip(*[cost(sides, rows, statement) for rows in ROWS])
+        costs = zip(*[cost(sides, partial(growing_book, rows, statement)) for rows in ROWS])
         for side, line in zip(("hoofrun", "SQLite"), costs):
             print(f"{statement:20}{side:12}" + "".join(f"{ns:12,.0f}" for ns in line), flush=True)

@@ -7,6 +7,7 @@ from pathlib import Path
 sys.path.insert(0, str(Path(__file__).resolve().parents[1] / "tools"))
 
 from booktext.calls import CALL, LEVEL_KINDS, PLAIN_KINDS, ROW_KINDS, call_words, where_words
+from booktext.names import name_value  # the loads take it from here
 from booktext.reader import read_text
 from booktext.schema import schema_bytes
 

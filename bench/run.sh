@@ -2,6 +2,7 @@
 # Measures hoofrun and the orphan list against SQLite in memory, on the same bytes.
 # usage: bench/run.sh [CALLS]      calls of each input, 10,000 if not given
 #        bench/run.sh lists        the orphan lists alone
+#        bench/run.sh scans        rows gone through, with plain and with folded columns, alone
 # hoofrun is the one that $HOOFRUN names, or target/bin/hoofrun; the library that makes the orphan list
 # is the one that $CAPI names, or target/staticlib/libcapi.a.
 set -euo pipefail
@@ -12,8 +13,8 @@ hoofrun=${HOOFRUN:-target/bin/hoofrun}
 capi=${CAPI:-target/staticlib/libcapi.a}
 folder=target/bench
 
-if [ $# -gt 1 ] || ! [[ $calls =~ ^([1-9][0-9]*|lists)$ ]]; then
-    echo "usage: bench/run.sh [CALLS | lists]" >&2
+if [ $# -gt 1 ] || ! [[ $calls =~ ^([1-9][0-9]*|lists|scans)$ ]]; then
+    echo "usage: bench/run.sh [CALLS | lists | scans]" >&2
     exit 2
 fi
 if [ "$calls" != lists ] && ! [ -x "$hoofrun" ]; then
@@ -37,6 +38,9 @@ mkdir -p "$folder"
 compile=(gcc -std=c11 -O2 -Wall -Wextra -Iinclude)
 "${compile[@]}" -o "$folder/sqlite_side" bench/sqlite_side.c -lsqlite3
 "${compile[@]}" -o "$folder/engine_side" bench/engine_side.c "$capi"
+if [ "$calls" = scans ]; then
+    exec python3 bench/scans.py "$hoofrun" "$folder/sqlite_side" "$folder"
+fi
 if [ "$calls" != lists ]; then
     python3 bench/measure.py "$hoofrun" "$folder/sqlite_side" "$folder" "$calls"
     echo

@@ -13,7 +13,7 @@
 // line is the seconds of the fastest list, in which nothing else is; then comes a line 'KEY,ROW' for each
 // orphan. All keys must have the same child table.
 //
-// The schema is taken for valid.
+// The schema is taken for valid, and both columns of a key's pair are folded or neither is.
 #include "side.h"
 
 #include <sqlite3.h>
@@ -40,6 +40,7 @@ static record table_record(int t) { return table_records + TABLE_BYTES * t; }
 static record key_record(int k) { return key_records + KEY_BYTES * k; }
 static int row_count(int t) { return field16(table_record(t)); }
 static int column_count(int t) { return table_record(t)[2]; }
+static int is_folded(int t, int column) { return table_record(t)[9] >> column & 1; }
 
 static void stop(const char *where) {
     fprintf(stderr, "sqlite_side: %s: %s\n", where, db ? sqlite3_errmsg(db) : "no database");
@@ -92,15 +93,34 @@ static int mask_columns(int mask, uint8_t *columns) {
     return count;
 }
 
+// A value of a folded column is the text of its bytes, the lowest first, without the zeros at the end.
+static int text_length(const void *value) {
+    const uint8_t *bytes = value;
+    int length = 8;
+    while (length && !bytes[length - 1]) length--;
+    return length;
+}
+
+static void add_default(int t, int column) {
+    const uint8_t *bytes = table_record(t) + 16 + 8 * column;
+    if (is_folded(t, column)) {
+        add(" DEFAULT (CAST(x'");
+        for (int i = 0; i < text_length(bytes); i++) add("%02X", bytes[i]);
+        add("' AS TEXT))");
+    } else {
+        int64_t value;
+        memcpy(&value, bytes, 8);
+        add(" DEFAULT (%lld)", (long long)value);
+    }
+}
+
 static void add_column_definitions(int t) {
     record table = table_record(t);
     for (int c = 0; c < column_count(t); c++) {
-        int64_t value;
-        memcpy(&value, table + 16 + 8 * c, 8);
-        add(",c%d INTEGER", c);
+        add(",c%d %s", c, is_folded(t, c) ? "TEXT COLLATE NOCASE" : "INTEGER");
         if (table[3] >> c & 1) add(" NOT NULL");
         if (table[8] >> c & 1) add(" DEFAULT NULL");
-        else add(" DEFAULT (%lld)", (long long)value);
+        else add_default(t, c);
     }
 }
 
@@ -308,9 +328,12 @@ static int run(sqlite3_stmt *statement) {
     return done;
 }
 
-static void bind_value(sqlite3_stmt *statement, int place, int is_null, int64_t value) {
+// The value stays where it is until the statement has run.
+static void bind_value(sqlite3_stmt *statement, int place, int is_null, int folded, const int64_t *value) {
     if (is_null) sqlite3_bind_null(statement, place);
-    else sqlite3_bind_int64(statement, place, value);
+    else if (folded)
+        sqlite3_bind_text(statement, place, (const char *)value, text_length(value), SQLITE_STATIC);
+    else sqlite3_bind_int64(statement, place, *value);
 }
 
 // SQLite accepts an update or a delete of a row that is not there; here that is a refusal.
@@ -319,15 +342,16 @@ static int run_row_call(const int64_t *call) {
     if (!statement) return 0;
     sqlite3_bind_int64(statement, 1, call[2]);
     for (int c = 0; call[0] != DELETE && c < column_count(call[1]); c++)
-        bind_value(statement, c + 2, call[3] >> c & 1, call[4 + c]);
+        bind_value(statement, c + 2, call[3] >> c & 1, is_folded(call[1], c), call + 4 + c);
     return run(statement) && sqlite3_changes(db) == 1;
 }
 
 // Kinds 10 and 11: changing no row is no refusal.
 static int run_where_call(const int64_t *call) {
     sqlite3_stmt *statement = *where_statement(call);
-    if (!(call[3] & SEEKS_NULL)) sqlite3_bind_int64(statement, 1, call[4]);
-    if (call[0] == UPDATE_WHERE) bind_value(statement, 2, call[3] & SETS_NULL, call[6]);
+    if (!(call[3] & SEEKS_NULL)) bind_value(statement, 1, 0, is_folded(call[1], call[2]), call + 4);
+    if (call[0] == UPDATE_WHERE)
+        bind_value(statement, 2, call[3] & SETS_NULL, is_folded(call[1], call[5]), call + 6);
     return run(statement);
 }
 
