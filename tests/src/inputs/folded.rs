@@ -2,7 +2,7 @@
 
 use super::calls::{new_row, plain_call};
 use super::grounds::{self, Ground};
-use super::{broken_keys, half_filled, herds, populated, spellings};
+use super::{areas, broken_keys, half_filled, herds, populated, spellings};
 use crate::engine::Engine;
 use crate::model::area::Area;
 use crate::model::schema::{self, Row};
@@ -84,6 +84,38 @@ fn composite(r: &mut Random, bytes: &[u8]) -> Ground {
     });
     let keys = keys.collect();
     Ground::new(Records::new(r.pick(&[20, 40, 60]), tables, keys), values)
+}
+
+/// A schema whose table refers to itself by folded columns, and an area with a chain of rows, each of
+/// which has the key of the one before it in any spelling. Inserts lead to it.
+pub fn chained(r: &mut Random) -> (Ground, Vec<i64>) {
+    let plain = grounds::chain(r);
+    let numbers = areas::chained(r, &plain);
+    let mut records = plain.records.clone();
+    let table = &mut records.tables[0];
+    table.folded = table.unique[0] | r.byte() & low_bits(table.columns.into());
+    let (others, place) = (spellings::word(r, spellings::ANY), r.between(0, 7));
+    let mut name = |number: i64| {
+        let word = lettered(others, place, number);
+        let other = spellings::respelled(r, word);
+        r.pick(&[word, other])
+    };
+    let values = plain.values.iter().map(|&number| name(number)).collect();
+    let ground = Ground::new(records, values);
+    let mut area = ground.area(&ground.fresh());
+    for (number, row) in plain.area(&numbers).live_rows(0) {
+        let row: Row = row.into_iter().map(|value| value.map(&mut name)).collect();
+        area.put_row(0, number, Some(&row));
+    }
+    let words = area.words;
+    (ground, words)
+}
+
+/// The word with a letter at this place that tells the number: A for -1, and so on.
+fn lettered(word: i64, place: usize, number: i64) -> i64 {
+    let mut bytes = word.to_le_bytes();
+    bytes[place] = b'A' + (number + 1) as u8;
+    i64::from_le_bytes(bytes)
 }
 
 /// A few words in several spellings.

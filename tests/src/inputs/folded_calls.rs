@@ -44,6 +44,16 @@ pub fn now_and_then(r: &mut Random, ground: &Ground, words: &[i64]) -> Vec<i64> 
     }
 }
 
+/// The deletion of the first row of a chain in table 0 that is still there, or one of these calls.
+pub fn on_chain(r: &mut Random, ground: &Ground, words: &[i64]) -> Vec<i64> {
+    let key = &ground.schema.keys[0];
+    let rows = ground.area(words).live_rows(0).into_iter();
+    match rows.min_by_key(|(_, row)| key.compared(&key.parent_key(row))) {
+        Some((number, _)) if r.once_in(2) => row_call(3, 0, number, &[]),
+        _ => any(r, ground, words),
+    }
+}
+
 fn some_row(r: &mut Random, area: &Area, table: usize) -> Option<Numbered> {
     let live = area.live_rows(table);
     (!live.is_empty()).then(|| live[r.between(0, live.len() - 1)].clone())

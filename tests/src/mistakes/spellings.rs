@@ -7,17 +7,26 @@ use crate::model::folding::{compared, compared_key, folded, Mark};
 use crate::model::keys::{equal, full};
 use crate::model::rules::Rules;
 use crate::model::schema::{parent_mark, Action, Row, Schema};
-use crate::model::{list, statement, walk};
+use crate::model::walk::{self, Walk};
+use crate::model::{list, statement};
 
 pub const ALL: &[Mistake] = &[
     ("a respelled parent runs actions", |rules| {
         rules.fires = |_, old, new| full(old) && new != Some(old);
     }),
     ("child rows taken by the old key as typed", |rules| {
-        rules.found = |_, area, walk, row| {
-            let live = area.row(walk.key.child, row);
-            live.filter(|child| equal(&walk.key.child_key(child), &walk.old_key))
-                .map(|child| (row, child))
+        rules.found = |_, area, walk, row| found_as_typed(area, walk, row);
+    }),
+    ("child rows taken as typed from depth 5 on", |rules| {
+        rules.found = |rules, area, walk, row| match walk.change.depth {
+            0..=4 => walk::found(rules, area, walk, row),
+            _ => found_as_typed(area, walk, row),
+        };
+    }),
+    ("child rows taken as typed from row 8 on", |rules| {
+        rules.found = |rules, area, walk, row| match row {
+            0..=7 => walk::found(rules, area, walk, row),
+            _ => found_as_typed(area, walk, row),
         };
     }),
     ("orphans counted as typed", |rules| {
@@ -85,6 +94,13 @@ pub const ALL: &[Mistake] = &[
         };
     }),
 ];
+
+/// The child row of this number, if it is live and has the old key as typed.
+fn found_as_typed(area: &Area, walk: &Walk, row: usize) -> Option<(usize, Row)> {
+    let live = area.row(walk.key.child, row);
+    live.filter(|child| equal(&walk.key.child_key(child), &walk.old_key))
+        .map(|child| (row, child))
+}
 
 /// The row with these columns folded, if so.
 fn with_folded(mut row: Row, columns: &[usize], so: bool) -> Row {

@@ -15,7 +15,7 @@ const LEAST_PAIRS: usize = 1_000;
 const NAME: &str = "folded columns";
 
 /// The codes of calls and of lists, but for those of malformed inputs.
-const CODES: &[i64] = &[0, 10, 11, 12, 15, 16, 17, 18, 19, 20, 21, 23];
+const CODES: &[i64] = &[0, 10, 11, 12, 13, 14, 15, 16, 17, 18, 19, 20, 21, 23];
 const CODES_OF_LISTS: &[i64] = &[0, 10, 22];
 
 pub fn run(r: &mut Random, report: &mut Report) {

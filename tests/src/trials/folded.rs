@@ -15,6 +15,15 @@ pub const SORT: Sort = Sort {
 };
 
 fn start(r: &mut Random) -> Start {
+    if r.once_in(8) {
+        let (ground, area) = folded::chained(r);
+        return Start {
+            ground,
+            area,
+            origin: Origin::Reached,
+            call: folded_calls::on_chain,
+        };
+    }
     let ground = folded::ground(r, spellings::ANY);
     let (area, origin) = if r.between(0, 4) < 2 {
         (folded::filled(r, &ground), Origin::Filled)

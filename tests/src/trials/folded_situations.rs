@@ -226,6 +226,11 @@ const ROLLBACKS: &[Situation] = &[("a rollback puts another spelling back", ANY,
 
 /// Refusals.
 const REFUSED: &[Situation] = &[
+    (
+        "14 after CASCADE, another spelling",
+        &[Reached, Damaged],
+        |s| s.code == 14 && s.takes(Action::Cascade, true),
+    ),
     ("17 by another spelling, a row entered", ANY, |s| {
         s.refused_17(|step| step.kind == Kind::Insert)
     }),
