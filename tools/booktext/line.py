@@ -42,7 +42,8 @@ class Line:
             if not word and self.text[at] == '"':
                 self.fail("expected a second quote after '\"', found the end of the line")
             if not word:
-                self.fail(f"expected a name, a number or one of -> ( ) , . = ?, found {self.text[at]!r}")
+                words = "a name, a number, a name in quotes or one of -> ( ) , . = ?"
+                self.fail(f"expected {words}, found {self.text[at]!r}")
             self.words.append(word.group())
             at = BLANKS.match(self.text, word.end()).end()
 

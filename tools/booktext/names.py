@@ -27,5 +27,5 @@ def name_fault(name):
         return None
     wrong = re.sub(CHARACTERS, "", name)
     if wrong:
-        return rf"expected characters from space to ~ but \ in a name, found {wrong[0]!r}"
+        return rf"expected characters from space to ~ except \ in a name, found {wrong[0]!r}"
     return f"expected a name of 1 to {MOST_CHARACTERS} characters, found {len(name)}"
