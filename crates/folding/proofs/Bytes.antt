@@ -42,16 +42,19 @@ each-times f (suc k) n =
     let high = each-times f k (n / 256) in
     omega (arith, high)
 
--- an operation that works on each run of digits apart works on each byte
-module _ (op : ℕ → ℕ → ℕ)
-    (none : op 0 0 ≡ 0)
-    (block : (k a b r s : ℕ) → r < 2 ^ k → s < 2 ^ k → op (a * 2 ^ k + r) (b * 2 ^ k + s) ≡ op a b * 2 ^ k + op r s) where
-  pub each-op : {f g : ℕ → ℕ} → Bytewise f → Bytewise g → (k n : ℕ) → op (eachByte f k n) (eachByte g k n) ≡ eachByte (λ b. op (f b) (g b)) k n
-  unfolding eachByte
-  each-op hf hg zero n = none
-  each-op {f} {g} hf hg (suc k) n =
-      block 8 (eachByte f k (n / 256)) (eachByte g k (n / 256)) (f (n % 256)) (g (n % 256)) (hf (n % 256) (mod-lt n some)) (hg (n % 256) (mod-lt n some))
-      ∙ ap (λ m. m * 256 + op (f (n % 256)) (g (n % 256))) (each-op hf hg k (n / 256))
+-- an operation that works on each run of digits apart
+pub record Apart (op : ℕ → ℕ → ℕ) : Type 0 where
+  pub none : op 0 0 ≡ 0
+  pub low : (k a b : ℕ) → a < 2 ^ k → b < 2 ^ k → op a b < 2 ^ k
+  pub block : (k a b r s : ℕ) → r < 2 ^ k → s < 2 ^ k → op (a * 2 ^ k + r) (b * 2 ^ k + s) ≡ op a b * 2 ^ k + op r s
+
+-- works on each byte
+pub each-op : {f g : ℕ → ℕ} (op : ℕ → ℕ → ℕ) → Apart op → Bytewise f → Bytewise g → (k n : ℕ) → op (eachByte f k n) (eachByte g k n) ≡ eachByte (λ b. op (f b) (g b)) k n
+unfolding eachByte
+each-op op o hf hg zero n = o .none
+each-op {f} {g} op o hf hg (suc k) n =
+    o .block 8 (eachByte f k (n / 256)) (eachByte g k (n / 256)) (f (n % 256)) (g (n % 256)) (hf (n % 256) (mod-lt n some)) (hg (n % 256) (mod-lt n some))
+    ∙ ap (λ m. m * 256 + op (f (n % 256)) (g (n % 256))) (each-op op o hf hg k (n / 256))
 
 pub each-below : {f : ℕ → ℕ} → Bytewise f → (k n : ℕ) → eachByte f k n < 256 ^ k
 unfolding eachByte
