@@ -6,15 +6,16 @@ import sys
 from itertools import zip_longest
 from pathlib import Path
 
-from growth import HORSES, TRIMS
-from inputs import BEGIN, INSERT, Calls
+from inputs import BEGIN, INSERT, Calls, name_value
 from loads import trims_text
+from names import name_of, names_text
 
 RUNS = 3
 LISTS = 30  # of each run
-BOOKS = ((8, 128), (32, 1024))  # foreign keys; rows of each table
+SIZES = ((8, 128), (32, 1024))  # foreign keys; rows of each table
+PARENTS, CHILDREN = 0, 1
 
-# Whether the trim of a row is an orphan.
+# Whether the child of a row is an orphan.
 LOADS = {
     "no orphan": lambda row, rows: False,
     "the last row": lambda row, rows: row == rows - 1,
@@ -23,15 +24,33 @@ LOADS = {
 }
 
 
-def filled(keys, rows, is_orphan):
-    """Two full tables in an open transaction, the trim's horse tied by so many equal keys."""
-    text = trims_text(rows, rows, 2 * rows, keys=keys, deferred="deferred")
+def both_numbers(number):
+    """What the horse with a number and its trims have in the key's columns."""
+    return number, number
+
+
+def both_names(number):
+    """What the sensor with a number and its readings have there: one name in two spellings."""
+    name = name_of(number)
+    return name_value(name), name_value(name.swapcase())
+
+
+# The text of a book, and what parent and child have in the key's columns.
+KINDS = {"keys": (trims_text, both_numbers), "folded keys": (names_text, both_names)}
+
+
+def filled(kind, keys, rows, is_orphan):
+    """Two full tables in an open transaction, the children tied to the parents by so many equal keys."""
+    book_text, both_values = KINDS[kind]
+    of_parents, of_children = zip(*map(both_values, range(2 * rows)))
+    text = book_text(rows, rows, 2 * rows, keys=keys, deferred="deferred")
     calls = Calls(text, most_area_words=math.inf)
     calls.add(BEGIN)
     for row in range(rows):
-        calls.add(INSERT, HORSES, row, [row])
+        calls.add(INSERT, PARENTS, row, [of_parents[row]])
     for row in range(rows):
-        calls.add(INSERT, TRIMS, row, [row, row + rows if is_orphan(row, rows) else row])
+        number = row + rows if is_orphan(row, rows) else row
+        calls.add(INSERT, CHILDREN, row, [row, of_children[number]])
     return calls.to_bytes()
 
 
@@ -66,15 +85,15 @@ def best(programs, name, path):
 
 def print_lists(programs, folder):
     """One line for each book and load; its input stays in the folder as list1.bin and so on."""
-    print(f"{'milliseconds a list':40}{'orphans':>9}{'engine':>11}{'SQLite':>11}{'ratio':>8}")
-    books = [(keys, rows, load) for keys, rows in BOOKS for load in LOADS]
-    for number, (keys, rows, load) in enumerate(books, 1):
+    print(f"{'milliseconds a list':44}{'orphans':>9}{'engine':>11}{'SQLite':>11}{'ratio':>8}")
+    books = [(kind, keys, rows, load) for kind in KINDS for keys, rows in SIZES for load in LOADS]
+    for number, (kind, keys, rows, load) in enumerate(books, 1):
         path = Path(folder) / f"list{number}.bin"
-        path.write_bytes(filled(keys, rows, LOADS[load]))
-        name = f"{keys} keys, {rows:,} rows: {load}"
+        path.write_bytes(filled(kind, keys, rows, LOADS[load]))
+        name = f"{keys} {kind}, {rows:,} rows: {load}"
         ours, theirs, count = best(programs, name, path)
         cells = f"{count:9,}{ours * 1e3:11.3f}{theirs * 1e3:11.3f}{theirs / ours:8.2f}"
-        print(f"{name:40}{cells}", flush=True)
+        print(f"{name:44}{cells}", flush=True)
 
 
 def main():

@@ -9,7 +9,7 @@ from inputs import Yard
 from loads import autocommit, empty_transactions, herd, pedigree, sixteen_tables, transactions
 from loads import trims_text, two_columns_text
 from names import Named, names_text
-from pairs import Pairs, pairs_text
+from pairs import NamedPairs, Pairs, pairs_text
 from readings import NUMBER, VALUE, Kit, readings
 from scans import print_scans
 from sides import Sides
@@ -39,6 +39,8 @@ def loads(count):
     yield "folded names, autocommit", autocommit(Named(names_text(250, 1000, 120), 21), count)
     plain = Named(names_text(250, 1000, 120, folded=""), 21)
     yield "the same in one spelling", autocommit(plain, count)
+    folded_pairs = NamedPairs(pairs_text(250, 900, 64, match="simple", folded="folded"), 23)
+    yield "folded pairs, autocommit", autocommit(folded_pairs, count)
     yield "* 32 equal keys, 900 rows", autocommit(Yard(trims_text(900, 900, 64, keys=32), 7), count)
     two_columns = Yard(two_columns_text(900, 900, 150), 8, yard_column=True)
     yield "* constant first column", autocommit(two_columns, count)

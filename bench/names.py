@@ -14,25 +14,25 @@ table sensors rows {sensors}
 table readings rows {readings}
   column number not null unique
   column sensor {folded}
-key readings.sensor -> sensors.name {cascade}
-journal {journal}
+{keys}journal {journal}
 """
 
 
-def names_text(sensors, readings, journal, folded="folded"):
-    """Sensors and readings; both columns of the key are folded, or neither."""
+def names_text(sensors, readings, journal, folded="folded", keys=1, deferred=""):
+    """Sensors and readings tied by one key or equal ones, whose columns are both folded, or neither is."""
+    key = f"key readings.sensor -> sensors.name {CASCADE} {deferred}\n"
     return NAMES.format(
-        sensors=sensors, readings=readings, journal=journal, cascade=CASCADE, folded=folded
+        sensors=sensors, readings=readings, journal=journal, keys=key * keys, folded=folded
     )
 
 
-def name_of(number):
-    """The name of the sensor with a number, such as Lf2."""
-    return HOOVES[number % len(HOOVES)] + str(number // len(HOOVES))
+def name_of(number, beginnings=HOOVES):
+    """The name that a number tells, one of the beginnings with a number after it, such as Lf2."""
+    return beginnings[number % len(beginnings)] + str(number // len(beginnings))
 
 
-class Named(Yard):
-    """Sensors in the place of horses, readings in that of trims; a sensor's number tells its name.
+class Spelled(Yard):
+    """Sensors in the place of horses, readings in that of trims; a name comes first in a sensor's key.
 
     Where the names are folded each is spelled anew wherever it is given: a sensor that is written again is
     respelled. The calls are the same otherwise.
@@ -43,18 +43,25 @@ class Named(Yard):
         self.spelling = random.Random(seed)
         self.folded = self.calls.schema.tables[self.HORSES].columns[NAME].folded
 
-    def key_of(self, number):
-        """The name as a value, in some spelling."""
-        name = name_of(number)
+    def spelled(self, name):
+        """A name as a value, in some spelling."""
         if self.folded:
             name = "".join(self.spelling.choice((letter.lower(), letter.upper())) for letter in name)
-        return [name_value(name)]
+        return name_value(name)
 
     def second_sensor(self):
-        """Enters a sensor with a name that another one has: refused."""
+        """Enters a sensor with a key that another one has: refused."""
         vacant = [row for row in range(self.sizes[self.HORSES]) if row not in self.horses]
         if vacant:
             self.calls.add(INSERT, self.HORSES, vacant[0], self.key_of(self.any_number()))
+
+
+class Named(Spelled):
+    """Readings name their sensor; a sensor's number tells its name."""
+
+    def key_of(self, number):
+        """The name in some spelling."""
+        return [self.spelled(name_of(number))]
 
     def find_readings(self):
         """Finds the readings of a sensor by its name; they are moved to another sensor or deleted."""

@@ -1,35 +1,41 @@
-"""Loads on a key of two columns under MATCH FULL: readings name their sensor by horse and hoof together."""
+"""Loads on a key of two columns: readings name their sensor by horse and hoof together."""
 
 from inputs import COMMIT, Yard
 from loads import CASCADE
+from names import Spelled, name_of
 
 HOOVES = 4
+HORSE_NAMES = ("Ada", "Ida", "Max", "Tom")  # how they begin
 EMPTY, HALF = -1, -2  # in place of a sensor's number: a reading whose pair is empty, or half-filled
 MOST_HALF = 20  # half-filled readings at a time
 
 PAIRS = """\
 table sensors rows {sensors}
-  column horse not null
+  column horse {folded} not null
   column hoof not null
   unique (horse, hoof)
 table readings rows {readings}
   column number not null unique
-  column horse
+  column horse {folded}
   column hoof
-key readings.(horse, hoof) -> sensors.(horse, hoof) match full {cascade} {deferred}
+key readings.(horse, hoof) -> sensors.(horse, hoof) match {match} {cascade} {deferred}
 journal {journal}
 """
 
 
-def pairs_text(sensors, readings, journal, deferred=""):
-    """Sensors and readings under MATCH FULL."""
+def pairs_text(sensors, readings, journal, match="full", deferred="", folded=""):
+    """Sensors and readings; both columns of the horse are folded, or neither, those of the hoof never."""
     return PAIRS.format(
-        sensors=sensors, readings=readings, journal=journal, cascade=CASCADE, deferred=deferred
+        sensors=sensors, readings=readings, journal=journal, cascade=CASCADE,
+        match=match, deferred=deferred, folded=folded,
     )
 
 
 class Pairs(Yard):
-    """Sensors in the place of horses, readings in that of trims; a sensor's number tells horse and hoof."""
+    """Sensors in the place of horses, readings in that of trims; a sensor's number tells horse and hoof.
+
+    The key is under MATCH FULL, and the pairs of some readings are empty or half-filled.
+    """
 
     def key_of(self, number):
         """Horse and hoof; a half-filled pair has one of the two from some sensor."""
@@ -72,3 +78,19 @@ class Pairs(Yard):
         for row in self.half_filled() if kind == COMMIT else []:
             self.mend(row)
         super().close(kind)
+
+
+class NamedPairs(Spelled):
+    """Readings name their sensor by the horse's name and the hoof's number; no pair is empty."""
+
+    def key_of(self, number):
+        """The horse's name in some spelling, and the hoof."""
+        horse, hoof = divmod(number, HOOVES)
+        return [self.spelled(name_of(horse, HORSE_NAMES)), hoof]
+
+    def statement(self):
+        """A second sensor of a pair, or a statement on one row."""
+        if self.random.random() < 0.03 and self.horses:
+            self.second_sensor()
+        else:
+            super().statement()
