@@ -1,18 +1,19 @@
 -- The child rows that an action goes through: where they stand, and which of them have the old key.
 -- Assumes nothing.
-use mathlib.Core.Path.{_≡_, ap, _∙_}
-use mathlib.Core.Bool.{Bool, true}
+use mathlib.Core.Path.{_≡_, sym, ap, ap₂, _∙_}
+use mathlib.Core.Bool.{Bool, true, _&&_}
 use mathlib.Core.List.{List, []}
 use Prim.Native.Nat.{ℕ, _+_, _*_, _≤_, _<_}
 use lib.IntN.{ℤ}
 use lib.ListN.{length, getD, take, drop}
 use Rattle.schema.specs.declared.Action.{Action}
-use Rattle.schema.specs.Records.{tableOf, keyOf}
+use Rattle.schema.specs.Records.{ForeignKey, Schema, tableOf, keyOf}
 use Rattle.schema.specs.Fields.{schemaOf}
 use Rattle.rules.specs.Lists.{padded}
-use Rattle.rules.specs.Rows.{Row, rowAt, image}
-use Rattle.rules.specs.Change.{actionOf}
-use Rattle.rules.specs.KeyValues.{keyValues, childHasKey}
+use Rattle.rules.specs.Rows.{Row, Tables, rowAt, image, live}
+use Rattle.rules.specs.Book.{Work}
+use Rattle.rules.specs.Change.{Change, given, inTurn, taken, actionOf}
+use Rattle.rules.specs.KeyValues.{keyValues, hasKey, childHasKey, turnByValues, childrenByValues}
 use Rattle.bridge.specs.Fit.{workOf}
 use Rattle.bridge.specs.Ready.{Ready, rowIn}
 use Rattle.rows.specs.declared.SoughtKey.{SoughtKey}
@@ -20,49 +21,73 @@ use Rattle.rows.specs.declared.TableRows.{TableRows}
 use Rattle.rows.specs.Standing.{RowAt, Standing, rowsIn, RowsOf, PlacedAt}
 use Rattle.rows.specs.declared.KeyPairs.{KeyPairs}
 use Rattle.rows.specs.KeyColumns.{KeyColumns}
-use Rattle.rows.specs.Sought.{soughtValues, hasSought, SoughtIn, SoughtOf}
+use Rattle.rows.specs.Sought.{soughtValues, comparedValues, hasSought, SoughtIn, SoughtOf}
+use Rattle.rows.proofs.FoldLaws.{holds-compared}
+use Rattle.rows.proofs.SoughtLaws.{sought-in}
 use Rattle.rows.proofs.TableLaws.{child-table, rows-are, standing, placed-at, row-in, row-stands}
 use Rattle.scans.specs.FirstFrom.{FirstFrom, FirstRow}
 use Rattle.scans.proofs.FirstLaws.{at-turn, passes-at-turn}
 use Rattle.constraints.proofs.ServedLaws.{some-columns}
 use Rattle.change_parts.specs.declared.Followers.{Followers}
-use Rattle.change_parts.specs.Turns.{FollowersOf}
+use Rattle.change_parts.specs.Turns.{oldKey, FollowersOf}
 
 pub followers-are : (b : List ℕ) (k : ℕ) (old new : Row) {t : ℕ} {rows : TableRows} {pairs : KeyPairs} {key : SoughtKey} {act : Action} → KeyColumns b k pairs → t ≡ keyOf (schemaOf b) k .child → RowsOf b t rows → SoughtOf (pairs .folded) (pairs .n) (pairs .cs) (pairs .ps) old key → act ≡ actionOf new (keyOf (schemaOf b) k)
-    → FollowersOf b k new (record { table = t; rows = rows; key = key; ps = pairs .ps; action = act }) × (soughtValues key ≡ keyValues (keyOf (schemaOf b) k .parentColumns) old)
+    → FollowersOf b k new (record { table = t; rows = rows; key = key; ps = pairs .ps; action = act }) × (soughtValues key ≡ oldKey (keyOf (schemaOf b) k) old)
+unfolding oldKey
 followers-are b k old new {key = key} c e o s a = (
-  record { columns = rw (s .folded-is, s .width-is, s .columns-are) c; size = s .size; table-is = e; stand = o; action-is = a },
-  ap (λ (m : ℕ). take m (key .vs)) (s .width-is) ∙ s .values-are ∙ ap (λ (l : List ℕ). keyValues l old) (c .columns .parent-is),
+  record {
+    columns = rw (s .folded-is, s .width-is, s .columns-are) c;
+    sought = sought-in (rw (o .width-is, e) (c .columns .child-within)) s;
+    table-is = e;
+    stand = o;
+    action-is = a;
+  },
+  ap (λ (m : ℕ). take m (key .vs)) (s .width-is) ∙ s .values-are ∙ ap₂ comparedValues (c .folds-are) (ap (λ (l : List ℕ). keyValues l old) (c .columns .parents .parent-is)),
 )
+
+-- ---- values as they are compared: the same child rows have them
+module _ (k : ForeignKey) (vs : List ℤ) where
+  child-compared : (tabs : Tables) (i : ℕ) → childHasKey k (comparedValues (k .folds) vs) tabs i ≡ childHasKey k vs tabs i
+  unfolding childHasKey hasKey
+  child-compared tabs i = let row = rowAt (k .child) i tabs in ap (λ (b : Bool). live row && b) (holds-compared row (k .folds) (k .childColumns) vs)
+
+  -- so the same are gone through
+  pub children-compared : (change : Change) (s : Schema) (new : Row) (is : List ℕ) (w : Work) → childrenByValues change s new k (comparedValues (k .folds) vs) is w ≡ childrenByValues change s new k vs is w
+  unfolding childrenByValues turnByValues
+  children-compared change s new is w =
+      λ j. inTurn (λ i v. given (child-compared (v .tabs) i j) (taken change s new (actionOf new k) k i (image (k .child) i (v .tabs))) v) is w
 
 module _ (b : List ℕ) (a : List ℤ) (r : Ready b a) (k : ℕ) (new : Row) (x : Followers) (f : FollowersOf b k new x) where
   pub table-there : x .table < length (schemaOf b .tables)
-  table-there = rw (f .table-is) (child-table b (r .accepted) k (f .columns .columns .key))
+  table-there = rw (f .table-is) (child-table b (r .accepted) k (f .columns .columns .parents .whole-key .key))
 
   -- what the search for the next row requires
   pub search-ready : Standing a (x .rows) × ((1 ≤ x .key .n) × SoughtIn (x .rows .width) (x .key))
   search-ready = (
     standing b a r (x .table) table-there (x .rows) (f .stand),
-    (some-columns b k (x .key .n) (x .key .cs) (x .ps) (f .columns .columns), record { columns = rw (f .stand .width-is, f .table-is) (f .columns .columns .child-within); size = f .size }),
+    (some-columns b k (x .key .n) (x .key .cs) (x .ps) (f .columns .columns), f .sought),
   )
 
   pub rows-many : x .rows .count ≡ tableOf (schemaOf b) (keyOf (schemaOf b) k .child) .rows
   rows-many = f .stand .count-is ∙ ap (λ (u : ℕ). tableOf (schemaOf b) u .rows) (f .table-is)
 
-  -- child row j has the old key: the values that were fetched
-  abbrev pub HasOldKey : ℕ → Bool
-  HasOldKey = childHasKey (keyOf (schemaOf b) k) (soughtValues (x .key)) (workOf (schemaOf b) a .tabs)
+  -- child row j has the old key: its values, as they were typed or as they are compared
+  abbrev HasOldKey : List ℤ → ℕ → Bool
+  HasOldKey vs = childHasKey (keyOf (schemaOf b) k) vs (workOf (schemaOf b) a .tabs)
 
   -- what it finds: of the area the child table's rows matter and nothing else, of the old row the values
-  pub found-first : {from i : ℕ} → FirstRow (hasSought (x .key)) a (x .rows) from i → FirstFrom HasOldKey (x .rows .count) from i
+  pub found-first : {from i : ℕ} → FirstRow (hasSought (x .key)) a (x .rows) from i → FirstFrom (HasOldKey (soughtValues (x .key))) (x .rows .count) from i
   unfolding hasSought childHasKey rowAt
   found-first h =
       let q : rowsIn a (x .rows) ≡ getD (workOf (schemaOf b) a .tabs) (keyOf (schemaOf b) k .child) [] = rows-are b a r (x .table) table-there (x .rows) (f .stand) ∙ ap (λ (u : ℕ). getD (workOf (schemaOf b) a .tabs) u []) (f .table-is) in
       rw (q, f .columns .columns .child-is, f .columns .folds-are) at h
 
   -- so, for any values, in any area that is not refused, whatever the parent's row and the journal hold: the search that begins at row j, at its turn, finds it exactly if it is live, has no NULL in its child key and holds the values
-  pub found-at-turn : (j : ℕ) → j < x .rows .count → {i : ℕ} → FirstRow (hasSought (x .key)) a (x .rows) j i → (i ≡ j → HasOldKey j ≡ true) × (HasOldKey j ≡ true → i ≡ j)
-  found-at-turn j l h = let g = found-first h in (at-turn l g, passes-at-turn l g)
+  pub found-at-turn : (vs : List ℤ) → soughtValues (x .key) ≡ comparedValues (keyOf (schemaOf b) k .folds) vs → (j : ℕ) → j < x .rows .count → {i : ℕ} → FirstRow (hasSought (x .key)) a (x .rows) j i → (i ≡ j → HasOldKey vs j ≡ true) × (HasOldKey vs j ≡ true → i ≡ j)
+  found-at-turn vs e j l h =
+      let g = found-first h in
+      let same : HasOldKey (soughtValues (x .key)) j ≡ HasOldKey vs j = ap (λ (us : List ℤ). HasOldKey us j) e ∙ child-compared (keyOf (schemaOf b) k) vs (workOf (schemaOf b) a .tabs) j in
+      (λ p. sym same ∙ at-turn l g p, λ p. passes-at-turn l g (same ∙ p))
 
   -- row j of them
   module _ (j : ℕ) (l : j < tableOf (schemaOf b) (x .table) .rows) where

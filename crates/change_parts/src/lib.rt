@@ -1,6 +1,6 @@
 // The parts of a row change: its checks, the child rows that its actions take, and the images that they give them.
 ghost use mathlib.Core.Path.{_≡_};
-ghost use mathlib.Core.Bool.{true, false};
+ghost use mathlib.Core.Bool.{true};
 ghost use Prim.Native.Nat.{_<_};
 ghost use lib.ListN.{length};
 ghost use Rattle.schema.specs.Records.{keyOf};
@@ -10,13 +10,13 @@ ghost use Rattle.rules.specs.Rows;
 ghost use Rattle.rules.specs.Lists;
 ghost use Rattle.rules.specs.Keys;
 ghost use Rattle.rules.specs.Keys.{fullKey};
-ghost use Rattle.rules.specs.KeyValues.{keyValues};
 ghost use Rattle.rules.specs.Change;
 ghost use Rattle.bridge.specs.Fit.{workOf};
 ghost use Rattle.bridge.specs.Ready.{Placed};
+ghost use Rattle.rows.specs.KeyColumns.{WholeKey};
 ghost use Rattle.rows.specs.Sought.{soughtValues};
 ghost use Rattle.table_keys.specs.Touched.{BrokenKeys};
-ghost use Rattle.change_parts.specs.Turns.{deletesChild, actionImage, FollowersOf};
+ghost use Rattle.change_parts.specs.Turns.{deletesChild, actionImage, oldKey, FollowersOf};
 use rows::SoughtKey;
 use rows::TableRows;
 use rules::Refusal;
@@ -25,7 +25,8 @@ use schema::Action;
 use schema::SchemaAnswer;
 
 // What the child rows of a foreign key are gone through by: their table and where they stand, the old parent key in their
-// columns, the parent columns and the action. It is read once, before the first of them is looked at.
+// columns, folded where it is compared so, the parent columns and the action. It is read once, before the first of them is
+// looked at.
 pub struct Followers {
     pub table: usize,
     pub rows: TableRows,
@@ -106,11 +107,11 @@ pub fn action_of(schema: &[u8], k: usize, new: [i64; 9]) -> Action
 
 // ---- the child rows that follow a parent row
 
-// What the child rows of foreign key k, which is not broken, are gone through by, when a parent row turns from `old`, which has no NULL in
-// its key, to `new`.
+// What the child rows of foreign key k, which is not broken, are gone through by, when a parent row turns from `old`, which
+// has no NULL in its key, to `new`.
 pub fn followers_of(schema: &[u8], k: usize, old: [i64; 9], new: [i64; 9]) -> Followers
-    requires { ⌜ ((checkSchema (now schema) ≡ SchemaAnswer.Accepted) × ((k < length (schemaOf (now schema) .keys)) × (keyOf (schemaOf (now schema)) k .broken ≡ false))) × (fullKey (keyOf (schemaOf (now schema)) k .parentColumns) old ≡ true) ⌝ }
-    ensures { λ x. ⌜ FollowersOf (now (schema .entry)) k new x × (soughtValues (x .key) ≡ keyValues (keyOf (schemaOf (now (schema .entry))) k .parentColumns) old) ⌝ }
+    requires { ⌜ WholeKey (now schema) k × (fullKey (keyOf (schemaOf (now schema)) k .parentColumns) old ≡ true) ⌝ }
+    ensures { λ x. ⌜ FollowersOf (now (schema .entry)) k new x × (soughtValues (x .key) ≡ oldKey (keyOf (schemaOf (now (schema .entry))) k) old) ⌝ }
 {
     let t = fields::child(schema, k);
     let rows = rows::rows_of(schema, t);

@@ -32,7 +32,8 @@ use Rattle.bridge.proofs.TurnLaws.{turns-start, turns-none, turns-past, turns-d
 use Rattle.bridge.proofs.ValueLaws.{children-values}
 use Rattle.table_keys.specs.Touched.{touches, wholeAt}
 use Rattle.moves.specs.Tally.{TalliedAt}
-use Rattle.change_parts.specs.Turns.{deletesChild, actionImage}
+use Rattle.change_parts.specs.Turns.{deletesChild, actionImage, oldKey}
+use Rattle.change_parts.proofs.FollowerLaws.{children-compared}
 use Rattle.change_parts.proofs.PartLaws.{cascade-image}
 
 -- a row with its tally is in the area
@@ -128,9 +129,13 @@ module _ (rec : Change) (s : Schema) (new : Row) (t : ℕ) (old : Row) (k : Fore
     unfolding fires
     old-full = and-left (fullKey (k .parentColumns) old) _ (and-right (not (k .broken)) _ (and-right (eqb (k .parent) t) _ e))
 
-    pub key-on : {vs : List ℤ} → vs ≡ keyValues (k .parentColumns) old → childrenByValues rec s new k vs (upFrom 0 (tableOf s (k .child) .rows)) w ≡ keyTurn rec s new t old k w
-    unfolding keyTurn given fullKey
-    key-on v = rw v (sym (rw e (children-values old k (fails _ (and-right (live old) _ old-full)) rec s new (upFrom 0 (tableOf s (k .child) .rows)) w)))
+    pub key-on : {vs : List ℤ} → vs ≡ oldKey k old → childrenByValues rec s new k vs (upFrom 0 (tableOf s (k .child) .rows)) w ≡ keyTurn rec s new t old k w
+    unfolding keyTurn given fullKey oldKey
+    key-on v =
+        let rows = upFrom 0 (tableOf s (k .child) .rows) in
+        rw v
+        (children-compared k (keyValues (k .parentColumns) old) rec s new rows w
+        ∙ sym (rw e (children-values old k (fails _ (and-right (live old) _ old-full)) rec s new rows w)))
 
 -- ---- a taken row
 module _ (rec : Change) (s : Schema) (new : Row) (k : ForeignKey) (j : ℕ) (x : Row) (w : Work) (a : Action) (ea : a ≡ actionOf new k) where

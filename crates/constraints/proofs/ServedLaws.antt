@@ -22,7 +22,7 @@ use Rattle.rows.specs.Sought.{withKey}
 pub some-columns : (b : List ℕ) (k n : ℕ) (cs ps : List ℕ) → PairColumns b k n cs ps → 1 ≤ n
 some-columns b k n cs ps c =
     let size : length (take n cs) ≡ n = length-take-le n cs (omega (arith, c .child-within .few, c .child-within .size)) in
-    let width = read-width b (c .accepted) k (c .key) refl in
+    let width = read-width b (c .parents .whole-key .accepted) k (c .parents .whole-key .key) refl in
     omega (arith, size, ap length (c .child-is), width .0, width .1 .low)
 
 module _ (k : ForeignKey) {cs : List ℕ} (e : cs ≡ k .childColumns) (x : Row) where

@@ -1,7 +1,7 @@
 -- Rows that are found, by what the scans look for.
 -- Assumes nothing.
-use mathlib.Core.Path.{_≡_, refl, sym, _∙_, ap, ap₂}
-use mathlib.Core.Bool.{Bool, true, false, _&&_}
+use mathlib.Core.Path.{_≡_, refl, sym, _∙_, ap}
+use mathlib.Core.Bool.{Bool, true, false, cond, not, _&&_}
 use mathlib.Core.List.{List, [], _∷_}
 use Prim.Native.Nat.{ℕ, zero, suc, _<_}
 use native.Mathlib.Omega.{arith}
@@ -13,13 +13,15 @@ use Rattle.schema.specs.Ranges.{listFrom}
 use Rattle.schema.specs.Records.{tableOf}
 use Rattle.schema.specs.Fields.{schemaOf}
 use Rattle.rules.specs.Lists.{𝟘, one}
-use Rattle.rules.specs.Values.{natOf}
-use Rattle.rules.specs.Rows.{Row, rowAt, deletedImage, live, nullAt}
-use Rattle.rules.specs.Found.{cellIs, isFound, rowSet}
+use Rattle.rules.specs.Values.{natOf, folded, sameValue}
+use Rattle.rules.specs.Rows.{Row, rowAt, deletedImage, live, nullAt, valueAt}
+use Rattle.rules.specs.Book.{Work}
+use Rattle.rules.specs.Found.{cellIs, isFound, rowSet, rowsFound}
 use Rattle.rules.specs.KeyValues.{holdsKey, hasKey}
 use Rattle.bridge.specs.Fit.{workOf}
 use Rattle.bridge.specs.Ready.{Ready, rowIn}
 use Rattle.bridge.proofs.KeyLaws.{and-comm}
+use Rattle.folding.proofs.FoldLaws.{fold-again, folded-value}
 use Rattle.rows.specs.declared.TableRows.{TableRows}
 use Rattle.rows.specs.declared.SoughtKey.{SoughtKey}
 use Rattle.rows.specs.KeyColumns.{foldsIn}
@@ -30,10 +32,12 @@ use Rattle.rows.proofs.TableLaws.{rows-are}
 use Rattle.skips.specs.Skipped.{Skipped}
 use Rattle.skips.proofs.SkipLaws.{passed-by}
 use Rattle.scans.specs.FirstFrom.{FirstFrom, FirstRow}
+use Rattle.scans.proofs.FirstLaws.{first-same}
 use Rattle.found.specs.declared.Cell.{Cell}
 use Rattle.found.specs.declared.Given.{Given}
 use Rattle.found.specs.declared.Given.the-variants.{Deleted, Set}
-use Rattle.found.specs.Sought.{foundRow, foundAt, nullIn, givenImage, setsIn}
+use Rattle.found.specs.declared.Seeking.{Seeking}
+use Rattle.found.specs.Sought.{foundRow, nullIn, hasNull, foundBy, foundAt, valueKey, Seekable, Seeks, SeekingOf, givenImage, setsIn, foundChanges, changesBy}
 
 -- ---- NULL is sought
 
@@ -41,65 +45,97 @@ pub null-is : (a : List ℤ) (p w c : ℕ) → 0 < w → {n : ℕ} {b : Bool} �
 unfolding nullIn
 null-is a p w c h e f = f ∙ ap (bit c) e ∙ sym (null-in a p w c h)
 
-module _ (sought : Cell) (null : sought .null ≡ true) where
-  null-found : (row : Row) → nullIn (sought .column) row && live row ≡ foundRow 0 sought row
-  unfolding nullIn foundRow isFound cellIs
-  null-found row = and-comm (nullAt row (sought .column)) (live row) ∙ ap (λ n. isFound 0 (sought .column) n (sought .value) row) (sym null)
+module _ (c : ℕ) (row : Row) where
+  pub filled-not-found : nullIn c row ≡ false → hasNull c row ≡ false
+  unfolding hasNull
+  filled-not-found e = ap (λ (b : Bool). live row && b) e ∙ and-comm (live row) false
 
-  -- whichever columns are folded
-  pub null-any : (folded : ℕ) (row : Row) → foundRow 0 sought row ≡ foundRow folded sought row
-  unfolding foundRow isFound cellIs
-  null-any folded row = ap (λ n. isFound 0 (sought .column) n (sought .value) row) null ∙ sym (ap (λ n. isFound folded (sought .column) n (sought .value) row) null)
+  pub null-decides : {b : Bool} → nullIn c row ≡ true → b ≡ live row → b ≡ hasNull c row
+  unfolding hasNull
+  null-decides e f = f ∙ and-comm true (live row) ∙ ap (λ (b : Bool). live row && b) (sym e)
 
-  pub filled-not-found : (row : Row) → nullIn (sought .column) row ≡ false → foundRow 0 sought row ≡ false
-  filled-not-found row e = sym (null-found row) ∙ ap (λ b. b && live row) e
-
-  pub null-decides : (row : Row) {b : Bool} → nullIn (sought .column) row ≡ true → b ≡ live row → b ≡ foundRow 0 sought row
-  null-decides row e f = f ∙ ap (λ b. b && live row) (sym e) ∙ null-found row
-
-  -- rows that are passed over are not found
-  pub filled-passed : {a : List ℤ} {t : TableRows} {from x : ℕ} → Skipped (nullIn (sought .column)) a t from x → Skipped (foundRow 0 sought) a t from x
-  filled-passed = passed-by filled-not-found
+-- rows that are passed over are not found
+pub filled-passed : (c : ℕ) {a : List ℤ} {t : TableRows} {from x : ℕ} → Skipped (nullIn c) a t from x → Skipped (hasNull c) a t from x
+filled-passed c = passed-by (filled-not-found c)
 
 -- ---- a value is sought
-
--- a key of one column, folded or not
-abbrev pub oneKey : ℕ → ℕ → ℤ → SoughtKey
-oneKey f c v = record { n = 1; folded = f; cs = c ∷ replicate 7 0; vs = v ∷ replicate 7 𝟘 }
-
-pub one-column : (w f c : ℕ) (v : ℤ) → suc c < w → SoughtIn w (oneKey f c v)
-one-column w f c v l = record { columns = record { few = omega arith; size = refl; within = at }; size = refl }
-  where
-    at : (i : ℕ) → i < 1 → suc (getD (c ∷ replicate 7 0) i 0) < w
-    at zero h = l
-    at (suc i) h = absurd (omega arith)
-
 bit-one : (b : Bool) → bit 0 (one b) ≡ b
 unfolding bit one
 bit-one true = refl
 bit-one false = refl
 
-pub value-found : (mask : ℕ) (sought : Cell) {f : ℕ} {v : ℤ} → sought .null ≡ false → f ≡ one (bit (sought .column) mask) → v ≡ sought .value → (row : Row) → hasSought (oneKey f (sought .column) v) row ≡ foundRow mask sought row
-unfolding hasSought hasKey holdsKey foldsIn listFrom foundRow isFound
-value-found mask sought {f} {v} e g h row =
-    let folded : bit 0 f ≡ bit (sought .column) mask = ap (bit 0) g ∙ bit-one (bit (sought .column) mask) in
-    ap (λ b. live row && b)
-    (and-comm (cellIs (bit 0 f) false v (sought .column) row) true
-    ∙ ap₂ (λ b z. cellIs b false z (sought .column) row) folded h
-    ∙ ap (λ n. cellIs (bit (sought .column) mask) n (sought .value) (sought .column) row) (sym e))
+module _ (mask c : ℕ) (v : ℤ) where
+  pub key-made : {f : ℕ} {u : ℤ} → f ≡ one (bit c mask) → u ≡ folded (bit c mask) v → record { n = 1; folded = f; cs = c ∷ replicate 7 0; vs = u ∷ replicate 7 𝟘 } ≡ valueKey mask c v
+  unfolding valueKey
+  key-made e h = rw (e, h) refl
+
+  key-in : (w : ℕ) → suc c < w → SoughtIn w (valueKey mask c v)
+  unfolding valueKey
+  key-in w l = record { columns = record { few = omega arith; size = refl; within = at }; size = refl; compared = kept }
+    where
+      at : (i : ℕ) → i < 1 → suc (getD (c ∷ replicate 7 0) i 0) < w
+      at zero h = l
+      at (suc i) h = absurd (omega arith)
+
+      kept : (i : ℕ) → i < 1 → folded (bit i (one (bit c mask))) (getD (folded (bit c mask) v ∷ replicate 7 𝟘) i 𝟘) ≡ getD (folded (bit c mask) v ∷ replicate 7 𝟘) i 𝟘
+      kept zero h = ap (λ (f : Bool). folded f (folded (bit c mask) v)) (bit-one (bit c mask)) ∙ fold-again (bit c mask) v
+      kept (suc i) h = absurd (omega arith)
+
+  value-found : (row : Row) → hasSought (valueKey mask c v) row ≡ isFound mask c false v row
+  unfolding hasSought hasKey holdsKey foldsIn listFrom valueKey isFound cellIs
+  value-found row =
+      ap (λ (b : Bool). live row && b)
+      (and-comm (not (nullAt row c) && sameValue (bit 0 (one (bit c mask))) (folded (bit c mask) v) (valueAt row c)) true
+      ∙ ap (λ (b : Bool). not (nullAt row c) && b) (ap (λ (f : Bool). sameValue f (folded (bit c mask) v) (valueAt row c)) (bit-one (bit c mask)) ∙ folded-value (bit c mask) v (valueAt row c)))
+
+-- ---- what a table is searched by
+pub seeking-is : (b : List ℕ) (t : ℕ) (sought : Cell) {rows : TableRows} {mask : ℕ} {key : SoughtKey} → t < length (schemaOf b .tables) → sought .column < tableOf (schemaOf b) t .columns → RowsOf b t rows → mask ≡ tableOf (schemaOf b) t .folded → key ≡ valueKey mask (sought .column) (sought .value)
+    → SeekingOf b t sought (record { rows = rows; null = sought .null; key = key })
+unfolding foundBy foundRow hasNull nullIn valueKey isFound cellIs
+seeking-is b t sought {rows} {mask} lt lc o em ek =
+    rw (ek, em)
+    (record {
+      seeks =
+          record {
+            table = lt;
+            stand = o;
+            seekable = record { one-column = refl; key = key-in _ (sought .column) (sought .value) (rows .width) (omega (arith, lc, o .width-is)) };
+          };
+      same = by (sought .null);
+    })
+  where
+    by : (null : Bool) (row : Row) → cond null (hasNull (sought .column) row) (hasSought (valueKey (tableOf (schemaOf b) t .folded) (sought .column) (sought .value)) row) ≡ isFound (tableOf (schemaOf b) t .folded) (sought .column) null (sought .value) row
+    by true row = refl
+    by false row = value-found (tableOf (schemaOf b) t .folded) (sought .column) (sought .value) row
+
+module _ {b : List ℕ} {t : ℕ} {sought : Cell} {x : Seeking} (k : SeekingOf b t sought x) (given : Given) where
+  -- the same row changes
+  pub changes-sought : (w : Work) → changesBy (schemaOf b) t x given w ≡ foundChanges (schemaOf b) t sought given w
+  unfolding changesBy foundChanges
+  changes-sought w = λ i. rowsFound (schemaOf b) t (λ row. k .same row i) (givenImage (tableOf (schemaOf b) t .columns) given) w
+
+-- ---- by what is sought
+module _ (x : Seeking) (a : List ℤ) {from i : ℕ} where
+  pub null-by : x .null ≡ true → FirstRow (hasNull (getD (x .key .cs) 0 0)) a (x .rows) from i → FirstRow (foundBy x) a (x .rows) from i
+  unfolding foundBy
+  null-by e = first-same a (x .rows) (λ row. sym (ap (λ (n : Bool). cond n (hasNull (getD (x .key .cs) 0 0) row) (hasSought (x .key) row)) e))
+
+  pub value-by : x .null ≡ false → FirstRow (hasSought (x .key)) a (x .rows) from i → FirstRow (foundBy x) a (x .rows) from i
+  unfolding foundBy
+  value-by e = first-same a (x .rows) (λ row. sym (ap (λ (n : Bool). cond n (hasNull (getD (x .key .cs) 0 0) row) (hasSought (x .key) row)) e))
 
 -- ---- the rows of a table
-pub found-in-table : (b : List ℕ) (a : List ℤ) (t : ℕ) (x : TableRows) → Ready b a → t < length (schemaOf b .tables) → RowsOf b t x → (sought : Cell) {from i : ℕ} → FirstRow (foundRow (tableOf (schemaOf b) t .folded) sought) a x from i
-    → FirstFrom (foundAt (schemaOf b) t sought (workOf (schemaOf b) a .tabs)) (tableOf (schemaOf b) t .rows) from i
+pub found-in-table : (b : List ℕ) (a : List ℤ) (t : ℕ) (x : Seeking) → Ready b a → Seeks b t x → {from i : ℕ} → FirstRow (foundBy x) a (x .rows) from i
+    → FirstFrom (foundAt x t (workOf (schemaOf b) a .tabs)) (tableOf (schemaOf b) t .rows) from i
 unfolding foundAt rowAt
-found-in-table b a t x r lt o sought {from} {i} h =
-    let eq : (j : ℕ) → foundAt (schemaOf b) t sought (workOf (schemaOf b) a .tabs) j ≡ foundRow (tableOf (schemaOf b) t .folded) sought (getD (rowsIn a x) j []) =
-    λ j. sym (ap (λ (l : List Row). foundRow (tableOf (schemaOf b) t .folded) sought (getD l j [])) (rows-are b a r t lt x o)) in
+found-in-table b a t x r k {from} {i} h =
+    let eq : (j : ℕ) → foundAt x t (workOf (schemaOf b) a .tabs) j ≡ foundBy x (getD (rowsIn a (x .rows)) j []) =
+    λ j. sym (ap (λ (l : List Row). foundBy x (getD l j [])) (rows-are b a r t (k .table) (x .rows) (k .stand))) in
     record {
       low = h .low;
-      high = omega (arith, h .high, o .count-is);
+      high = omega (arith, h .high, k .stand .count-is);
       skipped = λ j l m. eq j ∙ h .skipped j l m;
-      found = λ l. eq i ∙ h .found (omega (arith, l, o .count-is));
+      found = λ l. eq i ∙ h .found (omega (arith, l, k .stand .count-is));
     }
 
 -- ---- what a row is given

@@ -1,25 +1,35 @@
 // The parts of a statement for many rows: the next row that is found, and the image that it is given.
 ghost use mathlib.Core.Path.{_≡_};
-ghost use mathlib.Core.Bool.{true, false};
-ghost use Prim.Native.Nat.{suc, _+_, _*_, _≤_, _<_};
+ghost use mathlib.Core.Bool.{true};
+ghost use Prim.Native.Nat.{_+_, _*_, _≤_, _<_};
 ghost use lib.ListN.{length};
 ghost use Rattle.schema.specs.Records.{tableOf};
 ghost use Rattle.schema.specs.Fields.{schemaOf};
+ghost use Rattle.schema.specs.Check.{checkSchema};
 ghost use Rattle.rules.specs.Rows;
 ghost use Rattle.bridge.specs.Fit.{workOf};
-ghost use Rattle.bridge.specs.Ready.{Ready, Placed, rowIn};
+ghost use Rattle.bridge.specs.Ready.{Placed, rowIn};
 ghost use Rattle.rows.specs.Standing.{RowAt, Standing};
 ghost use Rattle.skips.specs.Skipped.{oneOfFour, Skipped};
-ghost use Rattle.scans.specs.FirstFrom.{FirstFrom, FirstRow};
-ghost use Rattle.found.specs.Sought.{foundRow, foundAt, nullIn, givenImage, setsIn};
+ghost use Rattle.scans.specs.FirstFrom.{FirstRow};
+ghost use Rattle.found.specs.Sought.{nullIn, hasNull, foundBy, valueKey, Seekable, SeekingOf, givenImage, setsIn};
 use rows::SoughtKey;
 use rows::TableRows;
+use schema::SchemaAnswer;
 
 // A column and what it holds: NULL, or a value.
 pub struct Cell {
     pub column: usize,
     pub null: bool,
     pub value: i64,
+}
+
+// What the rows of a table are searched by: where they stand, whether NULL is sought, and the column and its value as a key.
+// It is made once, before the first row is looked at.
+pub struct Seeking {
+    pub rows: TableRows,
+    pub null: bool,
+    pub key: SoughtKey,
 }
 
 // What becomes of a row that is found: it is deleted, or one column is set.
@@ -70,30 +80,29 @@ fn skip_filled(area: &[i64], table: TableRows, c: usize, from: usize) -> usize
     j
 }
 
-// Whether the row at p is found, where NULL is sought: no column is then folded.
-fn is_found_null(area: &[i64], p: usize, w: usize, sought: Cell) -> bool
-    requires { ⌜ RowAt (now area) p w × ((sought .column < 8) × (sought .null ≡ true)) ⌝ }
-    ensures { λ x. ⌜ x ≡ foundRow 0 sought (rowIn (now (area .entry)) p w) ⌝ }
+// Whether the row at p is live and its column c is NULL.
+fn has_null(area: &[i64], p: usize, w: usize, c: usize) -> bool
+    requires { ⌜ RowAt (now area) p w × (c < 8) ⌝ }
+    ensures { λ x. ⌜ x ≡ hasNull c (rowIn (now (area .entry)) p w) ⌝ }
 {
-    if !is_null(area, p, w, sought.column) {
+    if !is_null(area, p, w, c) {
         return false;
     }
     let state = words::nat_at(area, p);
     rows::is_live(state)
 }
 
-// The first row from `from` on that is found, where NULL is sought; the number of rows where there is none.
-fn first_null(area: &[i64], table: TableRows, sought: Cell, from: usize) -> usize
-    requires { ⌜ (Standing (now area) table × (from ≤ table .count)) × ((sought .column < 8) × (sought .null ≡ true)) ⌝ }
-    ensures { λ x. ⌜ FirstRow (foundRow 0 sought) (now (area .entry)) table from x ⌝ }
+// The first row from `from` on that is live and has NULL in column c; the number of rows where there is none.
+fn first_null(area: &[i64], table: TableRows, c: usize, from: usize) -> usize
+    requires { ⌜ (Standing (now area) table × (from ≤ table .count)) × (c < 8) ⌝ }
+    ensures { λ x. ⌜ FirstRow (hasNull c) (now (area .entry)) table from x ⌝ }
 {
     let start = table.start;
     let w = table.width;
     let rows = table.count;
-    let c = sought.column;
     let mut j = skip_filled(area, table, c, from);
     while j < rows {
-        if is_found_null(area, start + j * w, w, sought) {
+        if has_null(area, start + j * w, w, c) {
             return j;
         }
         j = skip_filled(area, table, c, j + 1);
@@ -101,32 +110,46 @@ fn first_null(area: &[i64], table: TableRows, sought: Cell, from: usize) -> usiz
     rows
 }
 
-// The first row from `from` on that is found, where a value is sought; the number of rows where there is none. The mask has
-// the table's folded columns.
-fn first_equal(area: &[i64], table: TableRows, mask: usize, sought: Cell, from: usize) -> usize
-    requires { ⌜ (Standing (now area) table × (from ≤ table .count)) × ((suc (sought .column) < table .width) × (sought .null ≡ false)) ⌝ }
-    ensures { λ x. ⌜ FirstRow (foundRow mask sought) (now (area .entry)) table from x ⌝ }
+// A value as a key of one column, in a table with these folded columns.
+fn value_key(mask: usize, c: usize, v: i64) -> SoughtKey
+    requires { ⌜ c < 8 ⌝ }
+    ensures { λ x. ⌜ x ≡ valueKey mask c v ⌝ }
 {
-    let c = sought.column;
-    let key = SoughtKey {
+    let u = folding::compared(numbers::bit_of(c, mask), v);
+    SoughtKey {
         n: 1,
         folded: rows::bit_number(c, mask),
         cs: [c, 0, 0, 0, 0, 0, 0, 0],
-        vs: [sought.value, 0, 0, 0, 0, 0, 0, 0],
-    };
-    scans::first_with_key(area, table, key, from)
+        vs: [u, 0, 0, 0, 0, 0, 0, 0],
+    }
 }
 
-// The next row of table t, from row `from` on, that is found; the number of rows where there is none.
-pub fn next_found(schema: &[u8], area: &[i64], t: usize, sought: Cell, from: usize) -> usize
-    requires { ⌜ (Ready (now schema) (now area) × (t < length (schemaOf (now schema) .tables))) × ((sought .column < tableOf (schemaOf (now schema)) t .columns) × (from ≤ tableOf (schemaOf (now schema)) t .rows)) ⌝ }
-    ensures { λ x. ⌜ FirstFrom (foundAt (schemaOf (now (schema .entry))) t sought (workOf (schemaOf (now (schema .entry))) (now (area .entry)) .tabs)) (tableOf (schemaOf (now (schema .entry))) t .rows) from x ⌝ }
+// What table t is searched by, for rows that hold what is sought.
+pub fn seeking_of(schema: &[u8], t: usize, sought: Cell) -> Seeking
+    requires { ⌜ (checkSchema (now schema) ≡ SchemaAnswer.Accepted) × ((t < length (schemaOf (now schema) .tables)) × (sought .column < tableOf (schemaOf (now schema)) t .columns)) ⌝ }
+    ensures { λ x. ⌜ SeekingOf (now (schema .entry)) t sought x ⌝ }
 {
-    let table = rows::rows_of(schema, t);
-    if sought.null {
-        return first_null(area, table, sought, from);
+    let rows = rows::rows_of(schema, t);
+    let mask = fields::folded(schema, t);
+    let key = value_key(mask, sought.column, sought.value);
+    Seeking {
+        rows: rows,
+        null: sought.null,
+        key: key,
     }
-    first_equal(area, table, fields::folded(schema, t), sought, from)
+}
+
+// The next row from row `from` on that is found; the number of rows where there is none.
+pub fn next_found(area: &[i64], x: Seeking, from: usize) -> usize
+    requires { ⌜ (Standing (now area) (x .rows) × (from ≤ x .rows .count)) × Seekable x ⌝ }
+    ensures { λ i. ⌜ FirstRow (foundBy x) (now (area .entry)) (x .rows) from i ⌝ }
+{
+    let table = x.rows;
+    let key = x.key;
+    if x.null {
+        return first_null(area, table, key.cs[0], from);
+    }
+    scans::first_with_key(area, table, key, from)
 }
 
 // ---- the image that it is given

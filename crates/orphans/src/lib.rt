@@ -1,6 +1,5 @@
 // The orphans of a foreign key, found among its child rows.
 ghost use mathlib.Core.Path.{_≡_};
-ghost use mathlib.Core.Bool.{false};
 ghost use mathlib.Core.List.{[]};
 ghost use Prim.Native.Nat.{_≤_, _<_};
 ghost use lib.ListN.{length, getD};
@@ -11,6 +10,7 @@ ghost use Rattle.rules.specs.Rows;
 ghost use Rattle.rules.specs.Keys;
 ghost use Rattle.bridge.specs.Fit.{workOf};
 ghost use Rattle.bridge.specs.Ready.{Ready};
+ghost use Rattle.rows.specs.KeyColumns.{WholeKey};
 ghost use Rattle.orphans.specs.KeyRows.{KeyRowsOf, Searched};
 use rows::KeyPairs;
 use rows::TableRows;
@@ -48,7 +48,7 @@ pub fn no_rows() -> KeyRows
 
 // The rows and the columns of foreign key k, which is not broken.
 fn key_rows(schema: &[u8], k: usize) -> KeyRows
-    requires { ⌜ (checkSchema (now schema) ≡ SchemaAnswer.Accepted) × ((k < length (schemaOf (now schema) .keys)) × (keyOf (schemaOf (now schema)) k .broken ≡ false)) ⌝ }
+    requires { ⌜ WholeKey (now schema) k ⌝ }
     ensures { λ x. ⌜ KeyRowsOf (now (schema .entry)) k x ⌝ }
 {
     let children = rows::rows_of(schema, fields::child(schema, k));

@@ -2,14 +2,15 @@
 -- Assumes nothing.
 use mathlib.Core.Path.{_≡_, refl, sym, ap, ap₂, _∙_}
 use mathlib.Core.Bool.{Bool, true, false, not, _&&_, _||_, true≢false}
-use mathlib.Core.List.{List, [], _∷_, map}
-use Prim.Native.Nat.{ℕ, zero, suc, _+_, _≤_, _<_}
+use mathlib.Core.List.{List, [], map}
+use Prim.Native.Nat.{ℕ, _+_, _≤_, _<_}
 use native.Mathlib.Omega.{arith}
 use lib.Dec.{eqb}
 use lib.IntN.{ℤ, pos}
 use lib.ListN.{length, getD, replicate, take, length-map}
 use lib.Seq.{sets, take-all}
 use Rattle.schema.specs.Records.{ForeignKey, Schema, noKey, keyOf}
+use Rattle.schema.proofs.ListLaws.{get-map}
 use Rattle.rules.specs.Lists.{𝟘, one}
 use Rattle.rules.specs.Rows.{Row, Tables}
 use Rattle.bridge.proofs.BrokenKeys.{broken-orphan}
@@ -54,13 +55,8 @@ rowList s t r x y tabs = map (λ k. pos (rowOrphans k t r x y tabs)) (s .keys)
 pub list-length : (s : Schema) (t r : ℕ) (x y : Row) (tabs : Tables) → length (rowList s t r x y tabs) ≡ length (s .keys)
 list-length s t r x y tabs = length-map (s .keys) (λ k. pos (rowOrphans k t r x y tabs))
 
-get-map : (f : ForeignKey → ℤ) (ks : List ForeignKey) (i : ℕ) → i < length ks → f (getD ks i noKey) ≡ getD (map f ks) i 𝟘
-get-map f [] i h = absurd (omega arith)
-get-map f (k ∷ ks) zero h = refl
-get-map f (k ∷ ks) (suc i) h = get-map f ks i (omega arith)
-
 pub list-at : (s : Schema) (t r : ℕ) (x y : Row) (tabs : Tables) (i : ℕ) → i < length (s .keys) → pos (rowOrphans (keyOf s i) t r x y tabs) ≡ getD (rowList s t r x y tabs) i 𝟘
-list-at s t r x y tabs i h = get-map (λ k. pos (rowOrphans k t r x y tabs)) (s .keys) i h
+list-at s t r x y tabs i h = sym (get-map (λ k. pos (rowOrphans k t r x y tabs)) (s .keys) i noKey 𝟘 h)
 
 pub list-filled : (s : Schema) → length (s .keys) ≤ 32 → (t r : ℕ) (x y : Row) (tabs : Tables) (n : ℕ) → length (s .keys) ≤ n → sets (replicate 32 𝟘) 0 (take n (rowList s t r x y tabs)) ≡ rowCounts s t r x y tabs
 unfolding rowCounts

@@ -96,16 +96,16 @@ module _ (b : List ℕ) (a : List ℤ) (k t r : ℕ) (pairs : KeyPairs) (h : Pla
 
   takes-with : (x : Row) → withKey (foldsIn (pairs .n) (pairs .folded)) (take (pairs .n) (pairs .cs)) (take (pairs .n) (pairs .ps)) x ≡ takes (keyOf (schemaOf b) k) x
   unfolding withKey takes mapsTo
-  takes-with x = λ i row. live row && sameKey (c .folds-are i) (c .columns .child-is i) (c .columns .parent-is i) row x
+  takes-with x = λ i row. live row && sameKey (c .folds-are i) (c .columns .child-is i) (c .columns .parents .parent-is i) row x
 
   twin-with : (x : Row) → withKey (foldsIn (pairs .n) (pairs .folded)) (take (pairs .n) (pairs .ps)) (take (pairs .n) (pairs .ps)) x ≡ sameParentKey (keyOf (schemaOf b) k) x
   unfolding withKey sameParentKey
-  twin-with x = λ i row. live row && sameKey (c .folds-are i) (c .columns .parent-is i) (c .columns .parent-is i) row x
+  twin-with x = λ i row. live row && sameKey (c .folds-are i) (c .columns .parents .parent-is i) (c .columns .parents .parent-is i) row x
 
   -- the child rows
   module _ {p : ℕ} (e : p ≡ keyOf (schemaOf b) k .child) (rows : TableRows) (o : RowsOf b p rows) where
     child-there : p < length (schemaOf b .tables)
-    child-there = rw e (child-table b (c .columns .accepted) k (c .columns .key))
+    child-there = rw e (child-table b (c .columns .parents .whole-key .accepted) k (c .columns .parents .whole-key .key))
 
     pub children-stand : Standing a rows
     children-stand = standing b a (h .ready) p child-there rows o
@@ -136,7 +136,7 @@ module _ (b : List ℕ) (a : List ℤ) (k t r : ℕ) (pairs : KeyPairs) (h : Pla
     parents-stand = (standing b a (h .ready) t (h .table) rows o, rw (o .count-is) (h .row))
 
     pub parents-sought : {x : Row} {key : SoughtKey} → TwinOf x key → (1 ≤ key .n) × SoughtIn (rows .width) key
-    parents-sought s = sought-ready s (some-columns b k (pairs .n) (pairs .cs) (pairs .ps) (c .columns)) (parent-in b k (pairs .n) (pairs .cs) (pairs .ps) (c .columns) (sym e) o)
+    parents-sought s = sought-ready s (some-columns b k (pairs .n) (pairs .cs) (pairs .ps) (c .columns)) (parent-in b k (pairs .n) (pairs .ps) (c .columns .parents) (sym e) o)
 
     pub twin-is : (x : Row) {key : SoughtKey} → TwinOf x key → any (hasSought key) (except r (rowsIn a rows)) ≡ hasTwin (keyOf (schemaOf b) k) r x (workOf (schemaOf b) a .tabs)
     unfolding hasTwin

@@ -1,18 +1,15 @@
--- Keys as plain values: what a row must hold to have one, and the values of an image's key.
+-- Keys as plain values: what a row must hold to have one, and the key of an image.
 -- Assumes nothing.
 use mathlib.Core.Path.{_≡_, refl, sym, ap, ap₂, _∙_}
 use mathlib.Core.Bool.{Bool, true, false, not, _&&_}
-use mathlib.Core.List.{List, [], _∷_, _++_, map}
+use mathlib.Core.List.{List, _∷_}
 use Prim.Native.Nat.{ℕ, suc, _+_, _≤_, _<_}
-use native.Mathlib.Numerals.{add-one}
 use native.Mathlib.Omega.{arith}
 use lib.IntN.{ℤ}
-use lib.ListN.{length, getD, set, take, drop}
-use lib.Seq.{take-suc, take-suc-set, drop-cons}
+use lib.ListN.{length, getD, take, drop}
 use Rattle.schema.specs.Bounds.{Columns}
 use Rattle.schema.specs.Bytes.{bit}
 use Rattle.schema.proofs.RangeLaws.{and-right}
-use Rattle.schema.proofs.ListLaws.{length-from, get-list}
 use Rattle.rules.specs.Lists.{𝟘, any, count}
 use Rattle.rules.specs.Values.{natOf, sameWord, folded, sameValue}
 use Rattle.rules.specs.Rows.{Row, live, nullAt, valueAt}
@@ -26,7 +23,8 @@ use Rattle.bridge.proofs.ValueLaws.{key-values}
 use Rattle.folding.proofs.FoldLaws.{kept-value}
 use Rattle.rows.specs.declared.SoughtKey.{SoughtKey}
 use Rattle.rows.specs.KeyColumns.{foldsIn}
-use Rattle.rows.specs.Sought.{soughtFolds, soughtColumns, soughtValues, hasValue, hasSought, SoughtIn, withKey, SoughtOf}
+use Rattle.rows.specs.Sought.{soughtFolds, soughtColumns, soughtValues, comparedValues, hasValue, hasSought, SoughtIn, withKey, SoughtOf}
+use Rattle.rows.proofs.FoldLaws.{folds-step, holds-compared, compared-kept}
 use Rattle.rows.proofs.CellLaws.{value-in, null-in, part-step, columns-step, columns-end, widen}
 
 -- ---- one value
@@ -48,21 +46,6 @@ module _ (a : List ℤ) (p w : ℕ) (f : Bool) (c : ℕ) (v : ℤ) (h : suc c < 
   unfolding cellIs
   value-same e =
       sym (and-same (ap not (null-in a p w c (omega arith))) (value-is e) ∙ and-comm (not (bit c (natOf (getD a p 𝟘)))) true)
-
--- ---- which places are folded
-module _ (f n : ℕ) where
-  pub folds-get : (i : ℕ) → i < n → getD (foldsIn n f) i false ≡ bit i f
-  unfolding foldsIn
-  folds-get i h = get-list (λ j. bit j f) n i false h
-
-  pub folds-length : length (foldsIn n f) ≡ n
-  unfolding foldsIn
-  folds-length = length-from (λ j. bit j f) n 0
-
-  folds-step : (i : ℕ) → i < n → drop i (foldsIn n f) ≡ bit i f ∷ drop (i + 1) (foldsIn n f)
-  folds-step i h =
-      drop-cons (foldsIn n f) i false (omega (arith, folds-length))
-      ∙ ap₂ (λ (b : Bool) (j : ℕ). b ∷ drop j (foldsIn n f)) (folds-get i h) (sym (add-one i))
 
 -- ---- all of them
 module _ (f n : ℕ) (cs : List ℕ) (vs : List ℤ) (x : Row) where
@@ -113,23 +96,8 @@ module _ (x : Row) where
     unfolding hasSought hasKey
     sought-live e = held-live x e
 
--- ---- the values of an image's key
-map-more : (f : ℕ → ℤ) (xs ys : List ℕ) → map f (xs ++ ys) ≡ map f xs ++ map f ys
-map-more f [] ys = refl
-map-more f (x ∷ xs) ys = ap (λ l. f x ∷ l) (map-more f xs ys)
-
-pub values-more : (image : Row) (ds : List ℕ) (vs : List ℤ) (i : ℕ) {v : ℤ} → i < length ds → i < length vs → take i vs ≡ keyValues (take i ds) image → v ≡ getD image (getD ds i 0 + 1) 𝟘
-    → take (i + 1) (set vs i v) ≡ keyValues (take (i + 1) ds) image
-unfolding keyValues valueAt
-values-more image ds vs i {v} h l e f =
-    let next : i + 1 ≡ suc i = omega arith in
-    let value : v ≡ valueAt image (getD ds i 0) = f ∙ ap (λ (m : ℕ). getD image m 𝟘) (add-one (getD ds i 0)) in
-    ap (λ (m : ℕ). take m (set vs i v)) next ∙ take-suc-set vs i v l
-    ∙ ap₂ (λ (a : List ℤ) (b : ℤ). a ++ b ∷ []) e value
-    ∙ sym (map-more (valueAt image) (take i ds) (getD ds i 0 ∷ []))
-    ∙ sym (ap (map (valueAt image)) (take-suc ds i 0 h)) ∙ ap (λ (m : ℕ). map (valueAt image) (take m ds)) (sym next)
-
-pub sought-is : (f n : ℕ) (cs ds : List ℕ) (image : Row) (vs : List ℤ) → length vs ≡ 8 → fullKey (take n ds) image ≡ true → take n vs ≡ keyValues (take n ds) image
+-- ---- the key of an image
+pub sought-is : (f n : ℕ) (cs ds : List ℕ) (image : Row) (vs : List ℤ) → length vs ≡ 8 → fullKey (take n ds) image ≡ true → take n vs ≡ comparedValues (foldsIn n f) (keyValues (take n ds) image)
     → SoughtOf f n cs ds image (record { n = n; folded = f; cs = cs; vs = vs })
 unfolding hasSought hasKey withKey fullKey
 sought-is f n cs ds image vs l full e =
@@ -142,14 +110,20 @@ sought-is f n cs ds image vs l full e =
       same = λ row.
           ap (λ (b : Bool). live row && b)
           (ap (λ (v : List ℤ). holdsKey (foldsIn n f) (take n cs) v row) e
+          ∙ holds-compared row (foldsIn n f) (take n cs) (keyValues (take n ds) image)
           ∙ key-values image row (foldsIn n f) (take n cs) (take n ds) (fails (any (nullAt image) (take n ds)) (and-right (live image) _ full)));
     }
 
 pub sought-in : {w f n : ℕ} {cs ds : List ℕ} {image : Row} {key : SoughtKey} → Columns w n cs → SoughtOf f n cs ds image key → SoughtIn w key
-sought-in {w} k s = record { columns = rw (s .width-is, s .columns-are) k; size = s .size }
+sought-in {f = f} {n} {ds = ds} {image} {key} k s =
+    record {
+      columns = rw (s .width-is, s .columns-are) k;
+      size = s .size;
+      compared = rw (s .width-is, s .folded-is) (compared-kept f n (keyValues (take n ds) image) (key .vs) (omega (arith, k .few, s .size)) (s .values-are));
+    }
 
 pub widen-sought : {w : ℕ} {key : SoughtKey} → w ≤ 9 → SoughtIn w key → SoughtIn 9 key
-widen-sought h k = record { columns = widen h (k .columns); size = k .size }
+widen-sought h k = record { columns = widen h (k .columns); size = k .size; compared = k .compared }
 
 -- ---- rows with the key of an image, sought by its values
 module _ {f n : ℕ} {cs ds : List ℕ} {image : Row} {key : SoughtKey} (s : SoughtOf f n cs ds image key) where

@@ -25,7 +25,7 @@ use Rattle.bridge.proofs.Offsets.{rowOffset}
 use Rattle.bridge.proofs.RowWords.{row-fits, table-fits, offset-fits, row-words, formed-fit, rows-length}
 use Rattle.rows.specs.declared.TableRows.{TableRows}
 use Rattle.rows.specs.Standing.{RowAt, Standing, rowsIn, RowsOf, PlacedAt}
-use Rattle.rows.specs.KeyColumns.{foldsIn, ParentColumns, PairColumns, KeyColumns}
+use Rattle.rows.specs.KeyColumns.{foldsIn, WholeKey, ParentColumns, PairColumns, KeyColumns}
 use Rattle.rows.proofs.CellLaws.{widen}
 
 -- ---- rows that stand in an area
@@ -58,8 +58,8 @@ module _ (b : List ℕ) (acc : checkSchema b ≡ Accepted) where
     pub child-table : keyOf (schemaOf b) k .child < length (schemaOf b .tables)
     child-table = let r = read-child b acc k h refl in omega (arith, r .0, r .1)
 
-    pub parent-table : keyOf (schemaOf b) k .broken ≡ false → keyOf (schemaOf b) k .parent < length (schemaOf b .tables)
-    parent-table u = parent-key b acc k h u .there
+pub parent-table : (b : List ℕ) (k : ℕ) → WholeKey b k → keyOf (schemaOf b) k .parent < length (schemaOf b .tables)
+parent-table b k w = parent-key b (w .accepted) k (w .key) (w .whole) .there
 
 -- ---- rows of a table
 offset-is : (b : List ℕ) (t j : ℕ) → tableOffset (schemaOf b) t + j * suc (tableOf (schemaOf b) t .columns) ≡ 333 + rowOffset (schemaOf b) t j
@@ -123,55 +123,33 @@ module _ (b : List ℕ) (a : List ℤ) (h : Ready b a) (t : ℕ) (l : t < length
 abbrev pub Read : ℕ → ℕ → List ℕ → List ℕ → Type 0
 Read w n columns cs = (take n cs ≡ columns) × Columns (suc w) n cs
 
-module _ (b : List ℕ) (acc : checkSchema b ≡ Accepted) (k : ℕ) (h : k < length (schemaOf b .keys)) {n : ℕ} (e : n ≡ length (keyOf (schemaOf b) k .childColumns)) where
-  read : {w : ℕ} {columns cs : List ℕ} → Read w (length (keyOf (schemaOf b) k .childColumns)) columns cs → Read w n columns cs
-  read {w} {columns} {cs} r = subst (λ (m : ℕ). Read w m columns cs) (sym e) r
+module _ (b : List ℕ) (k : ℕ) (w : WholeKey b k) {n : ℕ} (e : n ≡ length (keyOf (schemaOf b) k .childColumns)) where
+  read : {m : ℕ} {columns cs : List ℕ} → Read m (length (keyOf (schemaOf b) k .childColumns)) columns cs → Read m n columns cs
+  read {m} {columns} {cs} r = subst (λ (l : ℕ). Read m l columns cs) (sym e) r
 
-  module _ (u : keyOf (schemaOf b) k .broken ≡ false) (ps : List ℕ) (g : Read (tableOf (schemaOf b) (keyOf (schemaOf b) k .parent) .columns) (length (keyOf (schemaOf b) k .childColumns)) (keyOf (schemaOf b) k .parentColumns) ps) where
-    pub parent-read : take n ps ≡ keyOf (schemaOf b) k .parentColumns
-    parent-read = read g .0
-
-    pub parent-nine : Columns 9 n ps
-    parent-nine = widen (omega (arith, columns-few b acc (keyOf (schemaOf b) k .parent) (parent-table b acc k h u))) (read g .1)
-
+  module _ (ps : List ℕ) (g : Read (tableOf (schemaOf b) (keyOf (schemaOf b) k .parent) .columns) (length (keyOf (schemaOf b) k .childColumns)) (keyOf (schemaOf b) k .parentColumns) ps) where
     pub parent-columns : ParentColumns b k n ps
-    parent-columns = record { accepted = acc; key = h; whole = u; parent-is = parent-read; parent-within = read g .1 }
+    parent-columns = record { whole-key = w; parent-is = read g .0; parent-within = read g .1 }
 
     pub key-columns : (cs : List ℕ) → Read (tableOf (schemaOf b) (keyOf (schemaOf b) k .child) .columns) (length (keyOf (schemaOf b) k .childColumns)) (keyOf (schemaOf b) k .childColumns) cs → {f : ℕ} → foldsIn n f ≡ keyOf (schemaOf b) k .folds
         → KeyColumns b k (record { n = n; folded = f; cs = cs; ps = ps })
-    key-columns cs r f =
-        record {
-          columns =
-              record {
-                accepted = acc;
-                key = h;
-                whole = u;
-                child-is = read r .0;
-                parent-is = parent-read;
-                child-within = read r .1;
-                parent-within = read g .1;
-              };
-          folds-are = f;
-        }
+    key-columns cs r f = record { columns = record { parents = parent-columns; child-is = read r .0; child-within = read r .1 }; folds-are = f }
 
-pub parent-nine-of : (b : List ℕ) (k n : ℕ) (ps : List ℕ) → ParentColumns b k n ps → Columns 9 n ps
-parent-nine-of b k n ps h = widen (omega (arith, columns-few b (h .accepted) (keyOf (schemaOf b) k .parent) (parent-table b (h .accepted) k (h .key) (h .whole)))) (h .parent-within)
-
--- which pairs are folded, by the mask of the parent table
-pub parent-folds : (b : List ℕ) (k n : ℕ) (ps : List ℕ) → ParentColumns b k n ps → {t m : ℕ} → t ≡ keyOf (schemaOf b) k .parent → m ≡ tableOf (schemaOf b) t .folded → foldsOf m (take n ps) ≡ keyOf (schemaOf b) k .folds
-parent-folds b k n ps h e f =
-    ap₂ foldsOf (f ∙ ap (λ (t : ℕ). tableOf (schemaOf b) t .folded) e) (h .parent-is) ∙ sym (folds-are b (h .accepted) k (h .key) (h .whole))
-
-module _ (b : List ℕ) (k n : ℕ) (cs ps : List ℕ) (h : PairColumns b k n cs ps) where
-  pub child-wide : Columns 9 n cs
-  child-wide = widen (omega (arith, columns-few b (h .accepted) (keyOf (schemaOf b) k .child) (child-table b (h .accepted) k (h .key)))) (h .child-within)
-
+module _ (b : List ℕ) (k n : ℕ) (ps : List ℕ) (h : ParentColumns b k n ps) where
   pub parent-wide : Columns 9 n ps
-  parent-wide = widen (omega (arith, columns-few b (h .accepted) (keyOf (schemaOf b) k .parent) (parent-table b (h .accepted) k (h .key) (h .whole)))) (h .parent-within)
+  parent-wide = widen (omega (arith, columns-few b (h .whole-key .accepted) (keyOf (schemaOf b) k .parent) (parent-table b k (h .whole-key)))) (h .parent-within)
 
   -- in the rows of the parent table
-  pub parent-there : {t : ℕ} → t ≡ keyOf (schemaOf b) k .parent → t < length (schemaOf b .tables)
-  parent-there e = rw e (parent-table b (h .accepted) k (h .key) (h .whole))
-
   pub parent-in : {t : ℕ} {x : TableRows} → t ≡ keyOf (schemaOf b) k .parent → RowsOf b t x → Columns (x .width) n ps
   parent-in e r = rw (r .width-is, e) (h .parent-within)
+
+  -- which pairs are folded, by the mask of the parent table
+  pub parent-folds : {t m : ℕ} → t ≡ keyOf (schemaOf b) k .parent → m ≡ tableOf (schemaOf b) t .folded → foldsOf m (take n ps) ≡ keyOf (schemaOf b) k .folds
+  parent-folds e f =
+      let w = h .whole-key in
+      ap₂ foldsOf (f ∙ ap (λ (t : ℕ). tableOf (schemaOf b) t .folded) e) (h .parent-is) ∙ sym (folds-are b (w .accepted) k (w .key) (w .whole))
+
+pub child-wide : (b : List ℕ) (k n : ℕ) (cs ps : List ℕ) → PairColumns b k n cs ps → Columns 9 n cs
+child-wide b k n cs ps h =
+    let w = h .parents .whole-key in
+    widen (omega (arith, columns-few b (w .accepted) (keyOf (schemaOf b) k .child) (child-table b (w .accepted) k (w .key)))) (h .child-within)

@@ -19,30 +19,28 @@ use Rattle.rows.specs.declared.KeyPairs.{KeyPairs}
 unfoldable pub foldsIn : ℕ → ℕ → List Bool
 foldsIn n f = listFrom (λ i. bit i f) n 0
 
--- table t is the parent of foreign key k, which is not broken
-pub record WholeParent (b : List ℕ) (t k : ℕ) : Type 0 where
+-- foreign key k of an accepted schema is not broken
+pub record WholeKey (b : List ℕ) (k : ℕ) : Type 0 where
   pub accepted : checkSchema b ≡ Accepted
   pub key : k < length (schemaOf b .keys)
   pub whole : keyOf (schemaOf b) k .broken ≡ false
+
+-- and table t is its parent
+pub record WholeParent (b : List ℕ) (t k : ℕ) : Type 0 where
+  pub whole-key : WholeKey b k
   pub parent-is : keyOf (schemaOf b) k .parent ≡ t
 
--- the parent columns of foreign key k, which is not broken: n of them, at the start of ps
+-- its parent columns: n of them, at the start of ps
 pub record ParentColumns (b : List ℕ) (k n : ℕ) (ps : List ℕ) : Type 0 where
-  pub accepted : checkSchema b ≡ Accepted
-  pub key : k < length (schemaOf b .keys)
-  pub whole : keyOf (schemaOf b) k .broken ≡ false
+  pub whole-key : WholeKey b k
   pub parent-is : take n ps ≡ keyOf (schemaOf b) k .parentColumns
   pub parent-within : Columns (suc (tableOf (schemaOf b) (keyOf (schemaOf b) k .parent) .columns)) n ps
 
--- the columns of foreign key k, which is not broken: n child columns at the start of cs, n parent columns at the start of ps
+-- its columns: n child columns at the start of cs, and the parent columns
 pub record PairColumns (b : List ℕ) (k n : ℕ) (cs ps : List ℕ) : Type 0 where
-  pub accepted : checkSchema b ≡ Accepted
-  pub key : k < length (schemaOf b .keys)
-  pub whole : keyOf (schemaOf b) k .broken ≡ false
+  pub parents : ParentColumns b k n ps
   pub child-is : take n cs ≡ keyOf (schemaOf b) k .childColumns
-  pub parent-is : take n ps ≡ keyOf (schemaOf b) k .parentColumns
   pub child-within : Columns (suc (tableOf (schemaOf b) (keyOf (schemaOf b) k .child) .columns)) n cs
-  pub parent-within : Columns (suc (tableOf (schemaOf b) (keyOf (schemaOf b) k .parent) .columns)) n ps
 
 -- its column pairs, and which of them are folded
 pub record KeyColumns (b : List ℕ) (k : ℕ) (x : KeyPairs) : Type 0 where

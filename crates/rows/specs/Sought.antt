@@ -2,10 +2,10 @@
 -- Assumes nothing.
 use mathlib.Core.Path.{_≡_}
 use mathlib.Core.Bool.{Bool, false, _&&_}
-use mathlib.Core.List.{List}
+use mathlib.Core.List.{List, [], _∷_}
 use Prim.Native.Nat.{ℕ, _<_}
 use lib.IntN.{ℤ}
-use lib.ListN.{length, getD, take}
+use lib.ListN.{length, getD, take, drop}
 use Rattle.schema.specs.Bounds.{Columns}
 use Rattle.schema.specs.Bytes.{bit}
 use Rattle.rules.specs.Lists.{𝟘}
@@ -35,27 +35,16 @@ soughtValues key = take (key .n) (key .vs)
 unfoldable pub hasSought : SoughtKey → Row → Bool
 hasSought key row = hasKey (soughtFolds key) (soughtColumns key) (soughtValues key) row
 
--- its columns are in rows of w words
+-- values as their columns compare them, folded where fs says so
+unfoldable pub comparedValues : List Bool → List ℤ → List ℤ
+comparedValues fs [] = []
+comparedValues fs (v ∷ vs) = folded (getD fs 0 false) v ∷ comparedValues (drop 1 fs) vs
+
+-- its columns are in rows of w words, and its values are as these compare them
 pub record SoughtIn (w : ℕ) (key : SoughtKey) : Type 0 where
   pub columns : Columns w (key .n) (key .cs)
   pub size : length (key .vs) ≡ 8
-
--- the first n of the values xs are those of vs as their columns compare them, by the bits of f
-pub record FoldedValues (f n : ℕ) (vs xs : List ℤ) : Type 0 where
-  pub each : (i : ℕ) → i < n → getD xs i 𝟘 ≡ folded (bit i f) (getD vs i 𝟘)
-
--- its values are as their columns compare them
-pub record Folded (key : SoughtKey) : Type 0 where
-  pub kept : (i : ℕ) → i < key .n → folded (bit i (key .folded)) (getD (key .vs) i 𝟘) ≡ getD (key .vs) i 𝟘
-
--- the key x is `key` with its values so; the same rows have it
-pub record FoldedKey (key x : SoughtKey) : Type 0 where
-  pub folded-is : x .folded ≡ key .folded
-  pub width-is : x .n ≡ key .n
-  pub columns-are : x .cs ≡ key .cs
-  pub size : length (x .vs) ≡ 8
-  pub values : Folded x
-  pub same : (row : Row) → hasSought x row ≡ hasSought key row
+  pub compared : (i : ℕ) → i < key .n → folded (bit i (key .folded)) (getD (key .vs) i 𝟘) ≡ getD (key .vs) i 𝟘
 
 -- a live row whose key in columns cs is that of an image in columns ds
 unfoldable pub withKey : List Bool → List ℕ → List ℕ → Row → Row → Bool
@@ -66,6 +55,6 @@ pub record SoughtOf (f n : ℕ) (cs ds : List ℕ) (image : Row) (key : SoughtKe
   pub folded-is : key .folded ≡ f
   pub width-is : key .n ≡ n
   pub columns-are : key .cs ≡ cs
-  pub values-are : take n (key .vs) ≡ keyValues (take n ds) image
+  pub values-are : take n (key .vs) ≡ comparedValues (foldsIn n f) (keyValues (take n ds) image)
   pub size : length (key .vs) ≡ 8
   pub same : (row : Row) → hasSought key row ≡ withKey (foldsIn n f) (take n cs) (take n ds) image row

@@ -17,8 +17,8 @@ ghost use Rattle.rules.specs.KeyValues.{keyValues, holdsKey};
 ghost use Rattle.rules.specs.Change;
 ghost use Rattle.bridge.specs.Ready.{rowIn};
 ghost use Rattle.rows.specs.Standing.{RowAt, RowsOf};
-ghost use Rattle.rows.specs.KeyColumns.{foldsIn, WholeParent, ParentColumns, KeyColumns};
-ghost use Rattle.rows.specs.Sought.{soughtFolds, soughtColumns, soughtValues, hasValue, hasSought, SoughtIn, FoldedValues, Folded, FoldedKey, SoughtOf};
+ghost use Rattle.rows.specs.KeyColumns.{foldsIn, WholeKey, WholeParent, ParentColumns, KeyColumns};
+ghost use Rattle.rows.specs.Sought.{soughtFolds, soughtColumns, soughtValues, comparedValues, hasValue, hasSought, SoughtIn, SoughtOf};
 use schema::SchemaAnswer;
 
 // The rows of a table: their first word, the words of a row, how many there are.
@@ -37,7 +37,7 @@ pub struct KeyPairs {
 }
 
 // A sought key: its n columns in the rows that are searched, which of them are compared folded (bit i for the column of
-// place i), and the values that they must have. None of them is NULL.
+// place i), and the values that they must have, as they are compared: folded there. None of them is NULL.
 pub struct SoughtKey {
     pub n: usize,
     pub folded: usize,
@@ -128,22 +128,22 @@ pub fn image_half_key(image: [i64; 9], n: usize, cs: [usize; 8]) -> bool
 
 // ---- sought keys
 
-// The values of an image in n columns, at the start of an array.
-fn key_values(image: [i64; 9], n: usize, ds: [usize; 8]) -> [i64; 8]
+// The values of an image in n columns as they are compared, folded where bit i says so, at the start of an array.
+fn key_values(image: [i64; 9], folded: usize, n: usize, ds: [usize; 8]) -> [i64; 8]
     requires { ⌜ Columns 9 n ds ⌝ }
-    ensures { λ x. ⌜ take n x ≡ keyValues (take n ds) image ⌝ }
+    ensures { λ x. ⌜ take n x ≡ comparedValues (foldsIn n folded) (keyValues (take n ds) image) ⌝ }
 {
     let mut vs = [0i64; 8];
     let mut i = 0;
     while i < n {
         let d = ds[i];
-        vs[i] = image[d + 1];
+        vs[i] = folding::compared(numbers::bit_of(i, folded), image[d + 1]);
         i += 1;
     }
     vs
 }
 
-// The key of an image with no NULL in it, to be searched for in columns cs.
+// The key of an image with no NULL in it, to be searched for in columns cs. Its values are folded here, once.
 pub fn sought_key(
     image: [i64; 9],
     folded: usize,
@@ -154,40 +154,10 @@ pub fn sought_key(
     requires { ⌜ Columns 9 n ds × (Keys.fullKey (take n ds) image ≡ true) ⌝ }
     ensures { λ x. ⌜ SoughtOf folded n cs ds image x ⌝ }
 {
-    let vs = key_values(image, n, ds);
+    let vs = key_values(image, folded, n, ds);
     SoughtKey {
         n: n,
         folded: folded,
-        cs: cs,
-        vs: vs,
-    }
-}
-
-// n values as their columns compare them: folded where bit i says so.
-fn fold_values(folded: usize, n: usize, vs: [i64; 8]) -> [i64; 8]
-    requires { ⌜ n ≤ 8 ⌝ }
-    ensures { λ x. ⌜ FoldedValues folded n vs x ⌝ }
-{
-    let mut xs = vs;
-    let mut i = 0;
-    while i < n {
-        xs[i] = folding::compared(numbers::bit_of(i, folded), vs[i]);
-        i += 1;
-    }
-    xs
-}
-
-// A sought key with its values as their columns compare them: the same rows have it.
-pub fn fold_key(key: SoughtKey) -> SoughtKey
-    requires { ⌜ SoughtIn 9 key ⌝ }
-    ensures { λ x. ⌜ FoldedKey key x ⌝ }
-{
-    let cs = key.cs;
-    let typed = key.vs;
-    let vs = fold_values(key.folded, key.n, typed);
-    SoughtKey {
-        n: key.n,
-        folded: key.folded,
         cs: cs,
         vs: vs,
     }
@@ -219,7 +189,7 @@ pub fn has_value(area: &[i64], p: usize, w: usize, c: usize, v: i64) -> bool
 
 // Whether the row at p has no NULL in a sought key's columns, and has its values there.
 fn holds_key(area: &[i64], p: usize, w: usize, key: SoughtKey) -> bool
-    requires { ⌜ RowAt (now area) p w × (SoughtIn w key × Folded key) ⌝ }
+    requires { ⌜ RowAt (now area) p w × SoughtIn w key ⌝ }
     ensures { λ x. ⌜ x ≡ holdsKey (soughtFolds key) (soughtColumns key) (soughtValues key) (rowIn (now (area .entry)) p w) ⌝ }
 {
     let n = key.n;
@@ -238,7 +208,7 @@ fn holds_key(area: &[i64], p: usize, w: usize, key: SoughtKey) -> bool
 
 // Whether the row at p is live and has a sought key.
 pub fn has_key(area: &[i64], p: usize, w: usize, key: SoughtKey) -> bool
-    requires { ⌜ RowAt (now area) p w × (SoughtIn w key × Folded key) ⌝ }
+    requires { ⌜ RowAt (now area) p w × SoughtIn w key ⌝ }
     ensures { λ x. ⌜ x ≡ hasSought key (rowIn (now (area .entry)) p w) ⌝ }
 {
     if !holds_key(area, p, w, key) {
@@ -353,7 +323,7 @@ fn key_folds(schema: &[u8], k: usize, n: usize, ps: [usize; 8]) -> usize
 
 // The column pairs of foreign key k, which is not broken.
 pub fn key_pairs(schema: &[u8], k: usize) -> KeyPairs
-    requires { ⌜ (checkSchema (now schema) ≡ SchemaAnswer.Accepted) × ((k < length (schemaOf (now schema) .keys)) × (keyOf (schemaOf (now schema)) k .broken ≡ false)) ⌝ }
+    requires { ⌜ WholeKey (now schema) k ⌝ }
     ensures { λ x. ⌜ KeyColumns (now (schema .entry)) k x ⌝ }
 {
     let n = fields::width(schema, k);

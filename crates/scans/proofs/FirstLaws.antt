@@ -25,7 +25,7 @@ use Rattle.rows.specs.Sought.{hasValue, hasSought, SoughtIn}
 use Rattle.rows.specs.Standing.{rowsIn}
 use Rattle.bridge.proofs.LoopLaws.{any-none, any-hit, count-more, count-none}
 use Rattle.rows.proofs.TableLaws.{rows-many, row-get}
-use Rattle.rows.proofs.SoughtLaws.{folds-get}
+use Rattle.rows.proofs.FoldLaws.{folds-get}
 use Rattle.scans.specs.FirstFrom.{FirstFrom, FirstRow}
 
 -- what a test of row j in the words comes to

@@ -5,7 +5,7 @@ ghost use Rattle.rules.specs.Lists;
 ghost use Rattle.moves.specs.Movement.{except};
 ghost use Rattle.bridge.specs.Ready.{rowIn};
 ghost use Rattle.rows.specs.Standing.{RowAt, Standing, rowsIn};
-ghost use Rattle.rows.specs.Sought.{hasValue, hasSought, SoughtIn, Folded};
+ghost use Rattle.rows.specs.Sought.{hasValue, hasSought, SoughtIn};
 ghost use Rattle.skips.specs.Skipped.{firstWords, maskedPair};
 ghost use Rattle.scans.specs.Parts.{rowsBefore, rowsAfter};
 ghost use Rattle.scans.specs.FirstFrom.{FirstRow};
@@ -77,7 +77,7 @@ fn first_with_plain(area: &[i64], table: TableRows, key: SoughtKey, from: usize)
 
 // The same as `first_with_key`, for a key of one column, which is folded.
 fn first_folded_value(area: &[i64], table: TableRows, key: SoughtKey, from: usize) -> usize
-    requires { ⌜ (Standing (now area) table × (from ≤ table .count)) × ((key .n ≡ 1) × (SoughtIn (table .width) key × Folded key)) ⌝ }
+    requires { ⌜ (Standing (now area) table × (from ≤ table .count)) × ((key .n ≡ 1) × SoughtIn (table .width) key) ⌝ }
     ensures { λ x. ⌜ FirstRow (hasSought key) (now (area .entry)) table from x ⌝ }
 {
     let start = table.start;
@@ -94,10 +94,10 @@ fn first_folded_value(area: &[i64], table: TableRows, key: SoughtKey, from: usiz
     rows
 }
 
-// Whether the row at p is live and has a sought key of two columns or more, which is folded; most that have not are told by
+// Whether the row at p is live and has a sought key of two columns or more, some of them folded; most that have not are told by
 // the bits that those two are looked at by first.
 fn has_folded(area: &[i64], p: usize, w: usize, pair: MaskedPair, key: SoughtKey) -> bool
-    requires { ⌜ (RowAt (now area) p w × (SoughtIn w key × Folded key)) × ((2 ≤ key .n) × (pair ≡ maskedPair key)) ⌝ }
+    requires { ⌜ (RowAt (now area) p w × SoughtIn w key) × ((2 ≤ key .n) × (pair ≡ maskedPair key)) ⌝ }
     ensures { λ x. ⌜ x ≡ hasSought key (rowIn (now (area .entry)) p w) ⌝ }
 {
     if !skips::is_near(area, p, w, pair) {
@@ -106,9 +106,9 @@ fn has_folded(area: &[i64], p: usize, w: usize, pair: MaskedPair, key: SoughtKey
     rows::has_key(area, p, w, key)
 }
 
-// The same as `first_with_key`, for a key of two columns or more, which is folded.
+// The same as `first_with_key`, for a key of two columns or more, some of them folded.
 fn first_folded_composite(area: &[i64], table: TableRows, key: SoughtKey, from: usize) -> usize
-    requires { ⌜ (Standing (now area) table × (from ≤ table .count)) × ((2 ≤ key .n) × (SoughtIn (table .width) key × Folded key)) ⌝ }
+    requires { ⌜ (Standing (now area) table × (from ≤ table .count)) × ((2 ≤ key .n) × SoughtIn (table .width) key) ⌝ }
     ensures { λ x. ⌜ FirstRow (hasSought key) (now (area .entry)) table from x ⌝ }
 {
     let start = table.start;
@@ -125,9 +125,9 @@ fn first_folded_composite(area: &[i64], table: TableRows, key: SoughtKey, from: 
     rows
 }
 
-// The same as `first_with_key`, for a key with folded columns, which is folded.
+// The same as `first_with_key`, for a key with folded columns.
 fn first_with_folded(area: &[i64], table: TableRows, key: SoughtKey, from: usize) -> usize
-    requires { ⌜ (Standing (now area) table × (from ≤ table .count)) × ((1 ≤ key .n) × (SoughtIn (table .width) key × Folded key)) ⌝ }
+    requires { ⌜ (Standing (now area) table × (from ≤ table .count)) × ((1 ≤ key .n) × SoughtIn (table .width) key) ⌝ }
     ensures { λ x. ⌜ FirstRow (hasSought key) (now (area .entry)) table from x ⌝ }
 {
     if key.n == 1 {
@@ -136,17 +136,15 @@ fn first_with_folded(area: &[i64], table: TableRows, key: SoughtKey, from: usize
     first_folded_composite(area, table, key, from)
 }
 
-// The first row from `from` on that is live and has a sought key; the number of rows where there is none. A key with folded
-// columns is folded once, before the first row is looked at.
+// The first row from `from` on that is live and has a sought key; the number of rows where there is none.
 pub fn first_with_key(area: &[i64], table: TableRows, key: SoughtKey, from: usize) -> usize
     requires { ⌜ (Standing (now area) table × (from ≤ table .count)) × ((1 ≤ key .n) × SoughtIn (table .width) key) ⌝ }
     ensures { λ x. ⌜ FirstRow (hasSought key) (now (area .entry)) table from x ⌝ }
 {
-    if key.folded != 0 {
-        let folded = rows::fold_key(key);
-        return first_with_folded(area, table, folded, from);
+    if key.folded == 0 {
+        return first_with_plain(area, table, key, from);
     }
-    first_with_plain(area, table, key, from)
+    first_with_folded(area, table, key, from)
 }
 
 // Whether one of the rows is live and has a sought key.

@@ -1,6 +1,7 @@
--- Laws of lists made from a range. Assumes nothing.
+-- Laws of lists made from a range or from another list. Assumes nothing.
 use mathlib.Core.Path.{_≡_, refl, ap, _∙_}
 use mathlib.Core.Bool.{Bool, true}
+use mathlib.Core.List.{List, [], _∷_, map}
 use Prim.Native.Nat.{ℕ, zero, suc, _+_, _<_}
 use native.Mathlib.Nat.{add-zero, zero-add}
 use native.Mathlib.Omega.{arith}
@@ -36,3 +37,9 @@ module _ {A : Type 0} (f : ℕ → A) where
   -- a test that each element passes
   pub all-list : (q : A → Bool) (n : ℕ) → ((i : ℕ) → i < n → q (f i) ≡ true) → all q (listFrom f n 0) ≡ true
   all-list q n h = all-from q n 0 (λ i l. rw zero-add (h i l))
+
+-- element i of a list made from another, element by element
+pub get-map : {A B : Type 0} (f : A → B) (xs : List A) (i : ℕ) (d : A) (e : B) → i < length xs → getD (map f xs) i e ≡ f (getD xs i d)
+get-map f [] i d e h = absurd (omega arith)
+get-map f (x ∷ xs) zero d e h = refl
+get-map f (x ∷ xs) (suc i) d e h = get-map f xs i d e (omega arith)

@@ -29,7 +29,7 @@ use Rattle.rows.specs.declared.TableRows.{TableRows}
 use Rattle.rows.specs.Standing.{rowsIn}
 use Rattle.rows.specs.Sought.{soughtFolds, soughtColumns, soughtValues, hasValue, hasSought, SoughtIn}
 use Rattle.rows.proofs.TableLaws.{row-get}
-use Rattle.rows.proofs.SoughtLaws.{folds-get}
+use Rattle.rows.proofs.FoldLaws.{folds-get}
 use Rattle.folding.specs.Masks.{masked, firstMask}
 use Rattle.folding.proofs.FoldLaws.{masked-same}
 use Rattle.skips.specs.declared.TwoWords.{TwoWords}

@@ -1,6 +1,7 @@
 // A statement: row changes with their actions, and its end, where the kept numbers are settled.
 // `clean` says that every journal word past the records in use is known to be zero.
 ghost use mathlib.Core.Path.{_≡_};
+ghost use mathlib.Core.Bool.{true};
 ghost use Prim.Native.Nat.{_<_};
 ghost use lib.ListN.{length};
 ghost use Rattle.schema.specs.Fields.{schemaOf};
@@ -14,10 +15,11 @@ ghost use Rattle.bridge.specs.Ready.{Sound, resultOf};
 ghost use Rattle.area.specs.Spare.{Spare};
 ghost use Rattle.moves.specs.Tally.{Follows, Tallied};
 ghost use Rattle.settlement.specs.Settled.{Settling, After, settled};
-ghost use Rattle.found.specs.Sought.{foundChanges, Search};
+ghost use Rattle.found.specs.Sought.{setsIn, foundChanges, changesBy, Seeks, Search};
 ghost use Rattle.statements.specs.Ended.{concluded, Ending, Ended};
 use found::Cell;
 use found::Given;
+use found::Seeking;
 use rules::Answer;
 use rules::Refusal;
 use rules::Verdict;
@@ -87,22 +89,23 @@ pub fn change_row(
 
 // ---- every row that is found
 
-// Changes every row of table t that is found, by rising number, each with its actions.
+// Changes every row of table t that is found by x, by rising number, each with its actions.
 fn found_walk(
     schema: &[u8],
     area: &mut [i64],
     tally: &mut [i64; 32],
     t: usize,
-    sought: Cell,
+    x: Seeking,
     given: Given,
 ) -> Verdict
-    requires { ⌜ Tallied (now schema) (now tally) (now area) × Search (schemaOf (now schema)) t sought given ⌝ }
-    ensures { λ o. ⌜ (resultOf o (workOf (schemaOf (now (schema .entry))) (now (area .exit))) ≡ foundChanges (schemaOf (now (schema .entry))) t sought given (workOf (schemaOf (now (schema .entry))) (now (area .entry)))) × Follows (schemaOf (now (schema .entry))) (now (tally .entry)) (now (area .entry)) (now (tally .exit)) (now (area .exit)) ⌝ }
+    requires { ⌜ Tallied (now schema) (now tally) (now area) × (Seeks (now schema) t x × (setsIn (tableOf (schemaOf (now schema)) t .columns) given ≡ true)) ⌝ }
+    ensures { λ o. ⌜ (resultOf o (workOf (schemaOf (now (schema .entry))) (now (area .exit))) ≡ changesBy (schemaOf (now (schema .entry))) t x given (workOf (schemaOf (now (schema .entry))) (now (area .entry)))) × Follows (schemaOf (now (schema .entry))) (now (tally .entry)) (now (area .entry)) (now (tally .exit)) (now (area .exit)) ⌝ }
 {
-    let n = fields::rows(schema, t);
+    let rows = x.rows;
+    let n = rows.count;
     let mut j = 0;
     while j < n {
-        let i = found::next_found(schema, area, t, sought, j);
+        let i = found::next_found(area, x, j);
         if n <= i {
             return Verdict::Pass;
         }
@@ -132,6 +135,7 @@ pub fn change_found(
 {
     let used = words::nat_at(area, 2);
     let mut tally = [0i64; 32];
-    let made = found_walk(schema, area, &mut tally, t, sought, given);
+    let x = found::seeking_of(schema, t, sought);
+    let made = found_walk(schema, area, &mut tally, t, x, given);
     conclude(schema, area, tally, used, made, clean)
 }

@@ -21,7 +21,7 @@ sought-key-requires : tie.Need-sought-key-requires
 sought-key-requires c κs =
     let s = c .before .before .before .before .before .before in
     let pairs = c .before .before .key-pairs .ensures in
-    (parent-wide _ _ _ _ _ (pairs .columns), ap (λ (l : List ℕ). fullKey l (s .args .old)) (pairs .columns .parent-is) ∙ s .pre .1)
+    (parent-wide _ _ _ _ (pairs .columns .parents), ap (λ (l : List ℕ). fullKey l (s .args .old)) (pairs .columns .parents .parent-is) ∙ s .pre .1)
 
 action-of-requires : tie.Need-action-of-requires
 action-of-requires c κs = search needs

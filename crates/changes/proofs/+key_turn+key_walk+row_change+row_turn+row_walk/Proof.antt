@@ -177,10 +177,9 @@ key-turn-fires-requires : (t : ℕ) → key-turn-lts.Need-fires-requires (
 ) (key-turn-at t) key-turn.Post
 key-turn-fires-requires t c κs =
     let s = c .before .before .before .before .before in
+    let whole = in-whole (s .pre .1 .1 .0) (s .args .k) (s .pre .1 .1 .1) (c .before .before .before .bit-of .ensures) (c .before .before .if1 .left) in
     record {
-      accepted = s .pre .1 .0 .ready .accepted;
-      key = s .pre .1 .1 .1;
-      whole = in-whole (s .pre .1 .1 .0) (s .args .k) (s .pre .1 .1 .1) (c .before .before .before .bit-of .ensures) (c .before .before .if1 .left);
+      whole-key = record { accepted = s .pre .1 .0 .ready .accepted; key = s .pre .1 .1 .1; whole = whole };
       parent-is = sym (c .before .parent .ensures) ∙ c .if2 .left;
     }
 
@@ -214,7 +213,7 @@ key-turn-followers-of-requires t c κs =
     let s = c .before .before .before .before .before .before .before in
     let sc = schemaOf (s .args .schema .now) in
     let whole = in-whole (s .pre .1 .1 .0) (s .args .k) (s .pre .1 .1 .1) (c .before .before .before .before .before .bit-of .ensures) (c .before .before .before .before .if1 .left) in
-    ((s .pre .1 .0 .ready .accepted, (s .pre .1 .1 .1, whole)), law.old-full (change 0 sc) sc _ _ _ _ (workOf sc (s .args .area .now)) (sym (c .before .fires .ensures) ∙ not-false _ (c .if3 .left)))
+    (record { accepted = s .pre .1 .0 .ready .accepted; key = s .pre .1 .1 .1; whole = whole }, law.old-full (change 0 sc) sc _ _ _ _ (workOf sc (s .args .area .now)) (sym (c .before .fires .ensures) ∙ not-false _ (c .if3 .left)))
 
 key-turn-row-walk-requires : (t : ℕ) → key-turn-lts.Need-row-walk-requires (
   bit-of-reads.Asked,

@@ -12,14 +12,14 @@ image-full-key-requires c κs = child-wide _ _ _ _ _ (c .before .before .pre .1 
 is-half-due-requires : tie.Need-is-half-due-requires
 is-half-due-requires c κs =
     let columns = c .before .before .before .before .pre .1 .0 .columns in
-    (columns .accepted, (columns .key, child-wide _ _ _ _ _ columns))
+    (columns .parents .whole-key .accepted, (columns .parents .whole-key .key, child-wide _ _ _ _ _ columns))
 
 returns : tie.Need-returns
 returns c =
     let s = c .before .before .before .before .before in
     let columns = s .pre .1 .0 .columns in
-    let same = sym (same-width (s .args .schema .now) (columns .accepted) (s .args .k) (columns .key)) in
-    orphan-half _ (columns .child-is) _ (columns .whole) _ (c .before .before .image-full-key .ensures) same (c .before .if1 .taken) (c .is-half-due .ensures)
+    let same = sym (same-width (s .args .schema .now) (columns .parents .whole-key .accepted) (s .args .k) (columns .parents .whole-key .key)) in
+    orphan-half _ (columns .child-is) _ (columns .parents .whole-key .whole) _ (c .before .before .image-full-key .ensures) same (c .before .if1 .taken) (c .is-half-due .ensures)
 
 is-served-requires : tie.Need-is-served-requires
 is-served-requires c κs =
@@ -29,7 +29,7 @@ is-served-requires c κs =
 returns-2 : tie.Need-returns-2
 returns-2 c =
     let columns = c .before .before .before .before .before .pre .1 .0 .columns in
-    orphan-full _ (columns .child-is) _ (columns .whole) _ (c .before .before .image-full-key .ensures) (c .is-served .ensures) (c .before .if1 .left)
+    orphan-full _ (columns .child-is) _ (columns .parents .whole-key .whole) _ (c .before .before .image-full-key .ensures) (c .is-served .ensures) (c .before .if1 .left)
 
 pub is-orphan-among-spec : {M : Type 1} → statement M
 is-orphan-among-spec = tie.close (tie.spec image-full-key-requires is-half-due-requires returns is-served-requires returns-2)

@@ -17,9 +17,9 @@ any-with-key-requires c κs =
     let s = c .before .before .before .before in
     let b = s .args .schema .now in
     let columns = s .pre .1 .0 .columns in
-    let there = parent-table b (columns .accepted) (s .args .k) (columns .key) (columns .whole) in
+    let there = parent-table b (s .args .k) (columns .parents .whole-key) in
     let stands = standing b (s .args .area .now) (s .pre .0 .0) _ there (s .args .parents) (s .pre .1 .1) in
-    (stands, sought-ready (c .sought-key .ensures) (some-columns _ _ _ _ _ columns) (parent-in _ _ _ _ _ columns refl (s .pre .1 .1)))
+    (stands, sought-ready (c .sought-key .ensures) (some-columns _ _ _ _ _ columns) (parent-in _ _ _ _ (columns .parents) refl (s .pre .1 .1)))
 
 returns : tie.Need-returns
 returns c =
@@ -27,8 +27,8 @@ returns c =
     let b = s .args .schema .now in
     let K = keyOf (schemaOf b) (s .args .k) in
     let columns = s .pre .1 .0 .columns in
-    let rows = rows-are b (s .args .area .now) (s .pre .0 .0) (K .parent) (parent-table b (columns .accepted) (s .args .k) (columns .key) (columns .whole)) (s .args .parents) (s .pre .1 .1) in
-    c .any-with-key .ensures ∙ any-sought (c .before .sought-key .ensures) _ ∙ any-serving K (columns .child-is) _ (columns .parent-is) (s .pre .1 .0 .folds-are) rows
+    let rows = rows-are b (s .args .area .now) (s .pre .0 .0) (K .parent) (parent-table b (s .args .k) (columns .parents .whole-key)) (s .args .parents) (s .pre .1 .1) in
+    c .any-with-key .ensures ∙ any-sought (c .before .sought-key .ensures) _ ∙ any-serving K (columns .child-is) _ (columns .parents .parent-is) (s .pre .1 .0 .folds-are) rows
 
 pub is-served-spec : {M : Type 1} → statement M
 is-served-spec = tie.close (tie.spec sought-key-requires any-with-key-requires returns)

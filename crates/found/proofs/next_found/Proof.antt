@@ -1,50 +1,40 @@
-use mathlib.Core.Path.{subst}
-use Prim.Native.Nat.{ℕ}
 use native.Mathlib.Omega.{arith}
-use Rattle.rows.proofs.TableLaws.{standing, columns-few}
-use Rattle.scans.specs.FirstFrom.{FirstRow}
-use Rattle.scans.proofs.FirstLaws.{first-same}
-use Rattle.found.specs.Sought.{foundRow}
-use Rattle.found.proofs.SoughtLaws.{null-any, found-in-table}
 use borrow.Author.Needs.{needs}
+use Rattle.found.proofs.SoughtLaws.{null-by, value-by}
 use Rattle.found.proofs.next_found.Statement.{statement}
 use Rattle.found.proofs.next_found.Tie as tie
 
-rows-of-requires : tie.Need-rows-of-requires
-rows-of-requires c κs = search needs
+element-copy-out-first-null : tie.Need-element-copy-out-first-null
+element-copy-out-first-null c = search needs
 
 first-null-requires : tie.Need-first-null-requires
 first-null-requires c κs =
-    let s = c .before .before .before in
-    let table = c .before .rows-of in
-    ((standing (s .args .schema .now) (s .args .area .now) (s .pre .0 .0) (s .args .t) (s .pre .0 .1) (table .result) (table .ensures), omega (arith, s .pre .1 .1, table .ensures .count-is)), (omega (arith, s .pre .1 .0, columns-few (s .args .schema .now) (s .pre .0 .0 .accepted) (s .args .t) (s .pre .0 .1)), c .if1 .taken))
+    let s = c .before .before .before .before in
+    let key = s .pre .1 .key in
+    let column = key .columns .within 0 (omega (arith, s .pre .1 .one-column)) in
+    (s .pre .0, omega (arith, column, s .pre .0 .0 .narrow))
 
 returns : tie.Need-returns
 returns c =
-    let s = c .before .before .before .before in
-    let a = s .args in
-    let table = c .before .before .rows-of in
-    found-in-table (a .schema .now) (a .area .now) (a .t) (table .result) (s .pre .0 .0) (s .pre .0 .1) (table .ensures) (a .sought)
-    (first-same (a .area .now) (table .result) (null-any (a .sought) (c .before .if1 .taken) _) (c .first-null .ensures))
+    let s = c .before .before .before .before .before in
+    null-by (s .args .x) (s .args .area .now) (c .before .before .if1 .taken) (c .first-null .ensures)
 
-folded-requires : tie.Need-folded-requires
-folded-requires c κs = search needs
-
-first-equal-requires : tie.Need-first-equal-requires
-first-equal-requires c κs =
-    let s = c .before .before .before .before in
-    let table = c .before .before .rows-of in
-    ((standing (s .args .schema .now) (s .args .area .now) (s .pre .0 .0) (s .args .t) (s .pre .0 .1) (table .result) (table .ensures), omega (arith, s .pre .1 .1, table .ensures .count-is)), (omega (arith, s .pre .1 .0, table .ensures .width-is), c .before .if1 .left))
+first-with-key-requires : tie.Need-first-with-key-requires
+first-with-key-requires c κs =
+    let s = c .before .before .before in
+    (s .pre .0, (omega (arith, s .pre .1 .one-column), s .pre .1 .key))
 
 returns-2 : tie.Need-returns-2
 returns-2 c =
-    let s = c .before .before .before .before .before in
-    let a = s .args in
-    let table = c .before .before .before .rows-of in
-    found-in-table (a .schema .now) (a .area .now) (a .t) (table .result) (s .pre .0 .0) (s .pre .0 .1) (table .ensures) (a .sought)
-    (subst (λ (m : ℕ). FirstRow (foundRow m (a .sought)) (a .area .now) (table .result) (a .from) (c .first-equal .result)) (c .before .folded .ensures .0) (c .first-equal .ensures))
+    let s = c .before .before .before .before in
+    value-by (s .args .x) (s .args .area .now) (c .before .if1 .left) (c .first-with-key .ensures)
 
 pub next-found-spec : {M : Type 1} → statement M
 next-found-spec =
     tie.close
-    (tie.spec rows-of-requires first-null-requires returns folded-requires first-equal-requires returns-2)
+    (tie.spec
+    element-copy-out-first-null
+    first-null-requires
+    returns
+    first-with-key-requires
+    returns-2)

@@ -12,13 +12,14 @@ refilled-requires : tie.Need-refilled-requires
 refilled-requires c κs =
     let s = c .before in
     let columns = s .pre .0 in
-    ((columns .accepted, rw (s .pre .1) (child-table _ (columns .accepted) _ (columns .key))), (child-wide _ _ _ _ _ columns, parent-wide _ _ _ _ _ columns))
+    let w = columns .parents .whole-key in
+    ((w .accepted, rw (s .pre .1) (child-table _ (w .accepted) _ (w .key))), (child-wide _ _ _ _ _ columns, parent-wide _ _ _ _ (columns .parents)))
 
 columns-requires : tie.Need-columns-requires
 columns-requires c κs =
     let s = c .before .before in
-    let columns = s .pre .0 in
-    (columns .accepted, rw (s .pre .1) (child-table _ (columns .accepted) _ (columns .key)))
+    let w = s .pre .0 .parents .whole-key in
+    (w .accepted, rw (s .pre .1) (child-table _ (w .accepted) _ (w .key)))
 
 normal-requires : tie.Need-normal-requires
 normal-requires c κs = search needs
@@ -29,7 +30,7 @@ returns c =
     let S = schemaOf (s .args .schema .now) in
     c .normal .ensures
     ∙ ap (normal (c .before .columns .result)) (c .before .before .refilled .ensures)
-    ∙ child-is _ S (keyOf S (s .args .k)) _ _ (s .pre .1) (s .pre .0 .child-is) (s .pre .0 .parent-is) (c .before .columns .ensures .0)
+    ∙ child-is _ S (keyOf S (s .args .k)) _ _ (s .pre .1) (s .pre .0 .child-is) (s .pre .0 .parents .parent-is) (c .before .columns .ensures .0)
 
 pub child-image-spec : {M : Type 1} → statement M
 child-image-spec =

@@ -18,7 +18,7 @@ parent-requires c κs = search needs
 rows-of-requires-2 : tie.Need-rows-of-requires-2
 rows-of-requires-2 c κs =
     let s = c .before .before .before .before in
-    (s .pre .0, rw (c .parent .ensures) (parent-table (s .args .schema .now) (s .pre .0) (s .args .k) (s .pre .1 .0) (s .pre .1 .1)))
+    (s .pre .accepted, rw (c .parent .ensures) (parent-table (s .args .schema .now) (s .args .k) (s .pre)))
 
 key-pairs-requires : tie.Need-key-pairs-requires
 key-pairs-requires c κs = search needs

@@ -18,7 +18,7 @@ returns c =
 key-rows-requires : tie.Need-key-rows-requires
 key-rows-requires c κs =
     let s = c .before .before .before in
-    (s .pre .0, (s .pre .1, sym (c .before .is-broken .ensures) ∙ c .if1 .left))
+    record { accepted = s .pre .0; key = s .pre .1; whole = sym (c .before .is-broken .ensures) ∙ c .if1 .left }
 
 returns-2 : tie.Need-returns-2
 returns-2 c =

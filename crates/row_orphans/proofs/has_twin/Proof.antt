@@ -11,7 +11,7 @@ rows-of-requires c κs = search needs
 sought-key-requires : tie.Need-sought-key-requires
 sought-key-requires c κs =
     let s = c .before .before .before in
-    (parent-wide _ _ _ _ _ (s .pre .0 .1 .columns), s .pre .1 .1)
+    (parent-wide _ _ _ _ (s .pre .0 .1 .columns .parents), s .pre .1 .1)
 
 other-with-key-requires : tie.Need-other-with-key-requires
 other-with-key-requires c κs =

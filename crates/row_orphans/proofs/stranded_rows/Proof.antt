@@ -43,7 +43,7 @@ taken-rows-requires c κs =
     let a = s .args in
     let on = sym (c .before .before .fires .ensures) ∙ not-false _ (c .before .if2 .left) in
     let pairs = c .key-pairs .ensures in
-    ((s .pre .0, pairs), fires-full _ (a .t) (a .x) (a .y) (pairs .columns .parent-is) on)
+    ((s .pre .0, pairs), fires-full _ (a .t) (a .x) (a .y) (pairs .columns .parents .parent-is) on)
 
 returns-3 : tie.Need-returns-3
 returns-3 c =
@@ -60,7 +60,7 @@ has-twin-requires c κs =
     let a = s .args in
     let on = sym (c .before .before .before .before .fires .ensures) ∙ not-false _ (c .before .before .before .if2 .left) in
     let pairs = c .before .before .key-pairs .ensures in
-    ((s .pre .0, pairs), (sym (c .before .before .before .before .before .before .parent .ensures) ∙ c .before .before .before .before .before .if1 .left, fires-full _ (a .t) (a .x) (a .y) (pairs .columns .parent-is) on))
+    ((s .pre .0, pairs), (sym (c .before .before .before .before .before .before .parent .ensures) ∙ c .before .before .before .before .before .if1 .left, fires-full _ (a .t) (a .x) (a .y) (pairs .columns .parents .parent-is) on))
 
 returns-4 : tie.Need-returns-4
 returns-4 c =

@@ -14,7 +14,7 @@ rows-of-requires c κs = search needs
 sought-key-requires : tie.Need-sought-key-requires
 sought-key-requires c κs =
     let s = c .before .before .before .before .before in
-    (parent-wide _ _ _ _ _ (s .pre .0 .1 .columns), s .pre .1)
+    (parent-wide _ _ _ _ (s .pre .0 .1 .columns .parents), s .pre .1)
 
 count-others-with-key-requires : tie.Need-count-others-with-key-requires
 count-others-with-key-requires c κs =

@@ -29,7 +29,7 @@ loop-holds : tie.Need-loop-holds Inv-loop μ-loop
 loop-holds c = (search needs, refl)
 
 bit-of-requires : tie.Need-bit-of-requires Inv-loop μ-loop
-bit-of-requires c κs = omega (arith, c .before .before .pre .1 .0 .columns .few, c .loop-test .taken)
+bit-of-requires c κs = omega (arith, c .before .before .pre .1 .columns .few, c .loop-test .taken)
 
 mul-c : tie.Need-mul-c Inv-loop μ-loop
 mul-c c = search needs
@@ -50,7 +50,7 @@ holds-value-requires c κs =
     let s = c .before .before .before .before .before in
     let key = s .args .t4 in
     let v = back (getD (key .vs) (l .i) 𝟘) (c .v .given) in
-    (s .pre .0, (s .pre .1 .0 .columns .within (l .i) h, ap₂ folded (c .before .before .bit-of .ensures) v ∙ s .pre .1 .1 .kept (l .i) h ∙ sym v))
+    (s .pre .0, (s .pre .1 .columns .within (l .i) h, ap₂ folded (c .before .before .bit-of .ensures) v ∙ s .pre .1 .compared (l .i) h ∙ sym v))
 
 returns : tie.Need-returns Inv-loop μ-loop
 returns c =
@@ -60,7 +60,7 @@ returns c =
     let a = s .args in
     let key = a .t4 in
     let e = c .before .holds-value .ensures ∙ ap₂ (λ (f : Bool) (v : ℤ). cellIs f false v (getD (key .cs) (l .i) 0) (rowIn (a .area .now) (a .p) (a .w))) (c .before .before .before .before .bit-of .ensures) (back (getD (key .vs) (l .i) 𝟘) (c .before .before .v .given)) in
-    sym (l .inv .1 ∙ key-miss (key .folded) (key .n) (key .cs) (key .vs) _ (s .pre .1 .0 .columns) (s .pre .1 .0 .size) (l .i) h (sym e ∙ not-true _ (c .if1 .taken)))
+    sym (l .inv .1 ∙ key-miss (key .folded) (key .n) (key .cs) (key .vs) _ (s .pre .1 .columns) (s .pre .1 .size) (l .i) h (sym e ∙ not-true _ (c .if1 .taken)))
 
 add-i : tie.Need-add-i Inv-loop μ-loop
 add-i c = search needs
@@ -76,7 +76,7 @@ loop-again c =
     let a = s .args in
     let key = a .t4 in
     let e = c .before .holds-value .ensures ∙ ap₂ (λ (f : Bool) (v : ℤ). cellIs f false v (getD (key .cs) (l .i) 0) (rowIn (a .area .now) (a .p) (a .w))) (c .before .before .before .before .bit-of .ensures) (back (getD (key .vs) (l .i) 𝟘) (c .before .before .v .given)) in
-    (search needs, l .inv .1 ∙ key-hit (key .folded) (key .n) (key .cs) (key .vs) _ (s .pre .1 .0 .columns) (s .pre .1 .0 .size) (l .i) h (sym e ∙ not-false _ (c .if1 .left)))
+    (search needs, l .inv .1 ∙ key-hit (key .folded) (key .n) (key .cs) (key .vs) _ (s .pre .1 .columns) (s .pre .1 .size) (l .i) h (sym e ∙ not-false _ (c .if1 .left)))
 
 returns-2 : tie.Need-returns-2 Inv-loop μ-loop
 returns-2 c =

@@ -1,6 +1,6 @@
 use mathlib.Core.Path.{_∙_}
 use native.Mathlib.Omega.{arith}
-use Rattle.rows.proofs.TableLaws.{parent-table, parent-nine-of, parent-folds}
+use Rattle.rows.proofs.TableLaws.{parent-table, parent-wide, parent-folds}
 use Rattle.rows.proofs.FoldLaws.{folds-none}
 use borrow.Author.Needs.{needs}
 use Rattle.rows.proofs.key_folds.Statement.{statement}
@@ -13,7 +13,7 @@ folded-requires : tie.Need-folded-requires
 folded-requires c κs =
     let s = c .before .before in
     let p = s .pre in
-    (p .accepted, rw (c .parent .ensures) (parent-table (s .args .schema .now) (p .accepted) (s .args .k) (p .key) (p .whole)))
+    (p .whole-key .accepted, rw (c .parent .ensures) (parent-table (s .args .schema .now) (s .args .k) (p .whole-key)))
 
 returns : tie.Need-returns
 returns c =
@@ -26,7 +26,7 @@ returns c =
 folds-among-requires : tie.Need-folds-among-requires
 folds-among-requires c κs =
     let s = c .before .before .before .before in
-    parent-nine-of (s .args .schema .now) (s .args .k) (s .args .n) (s .args .ps) (s .pre)
+    parent-wide (s .args .schema .now) (s .args .k) (s .args .n) (s .args .ps) (s .pre)
 
 returns-2 : tie.Need-returns-2
 returns-2 c =

@@ -15,12 +15,12 @@ parent-columns-requires c κs = search needs
 key-folds-requires : tie.Need-key-folds-requires
 key-folds-requires c κs =
     let s = c .before .before .before .before in
-    parent-columns (s .args .schema .now) (s .pre .0) (s .args .k) (s .pre .1 .0) (c .before .before .width .ensures .0) (s .pre .1 .1) (c .parent-columns .result) (c .parent-columns .ensures)
+    parent-columns (s .args .schema .now) (s .args .k) (s .pre) (c .before .before .width .ensures .0) (c .parent-columns .result) (c .parent-columns .ensures)
 
 returns : tie.Need-returns
 returns c =
     let s = c .before .before .before .before .before in
-    key-columns (s .args .schema .now) (s .pre .0) (s .args .k) (s .pre .1 .0) (c .before .before .before .width .ensures .0) (s .pre .1 .1) (c .before .parent-columns .result) (c .before .parent-columns .ensures) (c .before .before .child-columns .result) (c .before .before .child-columns .ensures) (c .key-folds .ensures)
+    key-columns (s .args .schema .now) (s .args .k) (s .pre) (c .before .before .before .width .ensures .0) (c .before .parent-columns .result) (c .before .parent-columns .ensures) (c .before .before .child-columns .result) (c .before .before .child-columns .ensures) (c .key-folds .ensures)
 
 pub key-pairs-spec : {M : Type 1} → statement M
 key-pairs-spec =

@@ -1,23 +1,22 @@
 use borrow.Author.Needs.{needs}
-use mathlib.Core.Path.{_≡_, refl, sym, ap, _∙_}
-use Prim.Native.Nat.{ℕ, _-_, _≤_}
+use mathlib.Core.Path.{_≡_, ap₂, _∙_}
+use Prim.Native.Nat.{_-_, _≤_}
 use native.Mathlib.Omega.{arith}
-use lib.ListN.{length, take, length-set}
+use lib.ListN.{length, length-set}
 use Rattle.words.proofs.Signed.{back}
-use Rattle.rules.specs.KeyValues.{keyValues}
-use Rattle.rows.proofs.SoughtLaws.{values-more}
+use Rattle.rules.specs.Values.{folded}
+use Rattle.rows.proofs.FoldLaws.{Gathered, gathered-more, gathered-all}
 use Rattle.rows.proofs.key_values.Statement.{statement}
 use Rattle.rows.proofs.key_values.Tie as tie
 
 abbrev Inv-loop : tie.InvT-loop
-Inv-loop n image ds vs₀ i₀ vs i = (i ≤ n) × ((length vs ≡ 8) × (take i vs ≡ keyValues (take i ds) image))
+Inv-loop folded n image ds vs₀ i₀ vs i = (i ≤ n) × ((length vs ≡ 8) × Gathered image folded ds i vs)
 
 abbrev μ-loop : tie.MeasureT-loop
-μ-loop n image ds vs₀ i₀ vs i = n - i
+μ-loop folded n image ds vs₀ i₀ vs i = n - i
 
 loop-holds : tie.Need-loop-holds Inv-loop μ-loop
-unfolding keyValues
-loop-holds c = (search needs, (refl, refl))
+loop-holds c = (search needs, (search needs, λ j h. absurd (omega arith)))
 
 mul-d : tie.Need-mul-d Inv-loop μ-loop
 mul-d c = search needs
@@ -25,17 +24,23 @@ mul-d c = search needs
 array-read-d : tie.Need-array-read-d Inv-loop μ-loop
 array-read-d c = search needs
 
-add-vs : tie.Need-add-vs Inv-loop μ-loop
-add-vs c = omega (arith, c .before .before .pre .within (c .before .loop .i) (c .loop-test .taken))
+bit-of-requires : tie.Need-bit-of-requires Inv-loop μ-loop
+bit-of-requires c κs = search needs
+
+add-compared : tie.Need-add-compared Inv-loop μ-loop
+add-compared c = omega (arith, c .before .before .before .pre .within (c .before .before .loop .i) (c .before .loop-test .taken))
+
+mul-compared : tie.Need-mul-compared Inv-loop μ-loop
+mul-compared c = omega (arith, c .before .before .before .pre .within (c .before .before .loop .i) (c .before .loop-test .taken))
+
+array-copy-out-compared : tie.Need-array-copy-out-compared Inv-loop μ-loop
+array-copy-out-compared c = omega (arith, c .before .before .before .pre .within (c .before .before .loop .i) (c .before .loop-test .taken))
+
+compared-requires : tie.Need-compared-requires Inv-loop μ-loop
+compared-requires c κs = search needs
 
 mul-vs : tie.Need-mul-vs Inv-loop μ-loop
-mul-vs c = omega (arith, c .before .before .pre .within (c .before .loop .i) (c .loop-test .taken))
-
-array-copy-out-vs : tie.Need-array-copy-out-vs Inv-loop μ-loop
-array-copy-out-vs c = omega (arith, c .before .before .pre .within (c .before .loop .i) (c .loop-test .taken))
-
-mul-vs-2 : tie.Need-mul-vs-2 Inv-loop μ-loop
-mul-vs-2 c = search needs
+mul-vs c = search needs
 
 array-set-from-vs : tie.Need-array-set-from-vs Inv-loop μ-loop
 array-set-from-vs c = search needs
@@ -48,18 +53,20 @@ loop-less c = search needs
 
 loop-again : tie.Need-loop-again Inv-loop μ-loop
 loop-again c =
-    let s = c .before .before .before in
+    let s = c .before .before .before .before .before in
     let a = s .args in
-    let l = c .before .before .loop in
-    let h = c .before .loop-test .taken in
-    (search needs, (simp length-set (l .inv .1 .0), values-more (a .t1) (a .t3) (l .vs) (l .i) (omega (arith, h, s .pre .few, s .pre .size)) (omega (arith, h, s .pre .few, l .inv .1 .0)) (l .inv .1 .1) (back _ (c .vs .given))))
+    let l = c .before .before .before .before .loop in
+    let h = c .before .before .before .loop-test .taken in
+    let v = back (c .compared .result) (c .compared .ok) ∙ c .compared .ensures ∙ ap₂ folded (c .before .before .bit-of .ensures) (back _ (c .before .compared-arg .given)) in
+    (search needs, (simp length-set (l .inv .1 .0), gathered-more (a .t1) (a .folded) (a .t4) (l .i) (l .vs) (omega (arith, h, s .pre .few, l .inv .1 .0)) (l .inv .1 .1) v))
 
 returns : tie.Need-returns Inv-loop μ-loop
 returns c =
+    let s = c .before .before in
+    let a = s .args in
     let l = c .before .loop in
-    let a = c .before .before .args in
     let e : l .i ≡ a .n = omega (arith, l .inv .0, c .loop-test .left) in
-    sym (ap (λ (m : ℕ). take m (l .vs)) e) ∙ l .inv .1 .1 ∙ ap (λ (m : ℕ). keyValues (take m (a .t3)) (a .t1)) e
+    gathered-all (a .t1) (a .folded) (a .t4) (a .n) (l .vs) (omega (arith, s .pre .few, s .pre .size)) (omega (arith, s .pre .few, l .inv .1 .0)) (rw e at (l .inv .1 .1))
 
 pub key-values-spec : {M : Type 1} → statement M
 key-values-spec =
@@ -70,10 +77,12 @@ key-values-spec =
     loop-holds
     mul-d
     array-read-d
-    add-vs
+    bit-of-requires
+    add-compared
+    mul-compared
+    array-copy-out-compared
+    compared-requires
     mul-vs
-    array-copy-out-vs
-    mul-vs-2
     array-set-from-vs
     add-i
     loop-less

@@ -22,18 +22,18 @@ abbrev μ-loop : tie.MeasureT-loop
 masked-pair-requires : tie.Need-masked-pair-requires Inv-loop μ-loop
 masked-pair-requires c κs =
     let s = c in
-    (s .pre .1 .0, widen-sought (s .pre .0 .0 .narrow) (s .pre .1 .1 .0))
+    (s .pre .1 .0, widen-sought (s .pre .0 .0 .narrow) (s .pre .1 .1))
 
 skip-far-requires : tie.Need-skip-far-requires Inv-loop μ-loop
 skip-far-requires c κs =
     let s = c .before in
-    (s .pre .0 .0, (omega (arith, s .pre .0 .1), pair-within (s .args .key) (s .pre .1 .1 .0) (s .pre .1 .0) (c .masked-pair .ensures)))
+    (s .pre .0 .0, (omega (arith, s .pre .0 .1), pair-within (s .args .key) (s .pre .1 .1) (s .pre .1 .0) (c .masked-pair .ensures)))
 
 loop-holds : tie.Need-loop-holds Inv-loop μ-loop
 loop-holds c =
     let masked-pair = c .before .masked-pair in
     let s = c .before .before in
-    (c .skip-far .ensures .low, far-passed (s .args .key) (s .pre .1 .0) (s .pre .1 .1 .0) (masked-pair .ensures) (c .skip-far .ensures) .none)
+    (c .skip-far .ensures .low, far-passed (s .args .key) (s .pre .1 .0) (s .pre .1 .1) (masked-pair .ensures) (c .skip-far .ensures) .none)
 
 mul-has-folded : tie.Need-mul-has-folded Inv-loop μ-loop
 mul-has-folded c =
@@ -69,7 +69,7 @@ skip-far-requires-2 c κs =
     let masked-pair = c .before .before .before .before .before .masked-pair in
     let loop-test = c .before .before .loop-test in
     let s = c .before .before .before .before .before .before in
-    (s .pre .0 .0, (omega (arith, loop-test .taken), pair-within (s .args .key) (s .pre .1 .1 .0) (s .pre .1 .0) (masked-pair .ensures)))
+    (s .pre .0 .0, (omega (arith, loop-test .taken), pair-within (s .args .key) (s .pre .1 .1) (s .pre .1 .0) (masked-pair .ensures)))
 
 loop-less : tie.Need-loop-less Inv-loop μ-loop
 loop-less c = omega (arith, c .skip-far2 .ensures .low, c .before .before .before .loop-test .taken)
@@ -82,7 +82,7 @@ loop-again c =
     let has-folded = c .before .before .has-folded in
     let s = c .before .before .before .before .before .before .before in
     let miss = tested (hasSought (s .args .key)) (s .args .area .now) (s .args .table) (l .r) (loop-test .taken) (has-folded .ensures) (c .before .if1 .left) in
-    let past = far-passed (s .args .key) (s .pre .1 .0) (s .pre .1 .1 .0) (masked-pair .ensures) (c .skip-far2 .ensures) .none in
+    let past = far-passed (s .args .key) (s .pre .1 .0) (s .pre .1 .1) (masked-pair .ensures) (c .skip-far2 .ensures) .none in
     (omega (arith, l .inv .0, c .skip-far2 .ensures .low), none-more (l .r) _ (l .inv .1) miss past)
 
 returns-2 : tie.Need-returns-2 Inv-loop μ-loop

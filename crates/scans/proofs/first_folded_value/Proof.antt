@@ -22,18 +22,18 @@ abbrev μ-loop : tie.MeasureT-loop
 masked-word-requires : tie.Need-masked-word-requires Inv-loop μ-loop
 masked-word-requires c κs =
     let s = c in
-    (omega (arith, s .pre .1 .0), widen-sought (s .pre .0 .0 .narrow) (s .pre .1 .1 .0))
+    (omega (arith, s .pre .1 .0), widen-sought (s .pre .0 .0 .narrow) (s .pre .1 .1))
 
 skip-masked-requires : tie.Need-skip-masked-requires Inv-loop μ-loop
 skip-masked-requires c κs =
     let s = c .before in
-    (s .pre .0 .0, (omega (arith, s .pre .0 .1), masked-within (s .args .key) (s .pre .1 .1 .0) 0 (omega (arith, s .pre .1 .0)) (c .masked-word .ensures)))
+    (s .pre .0 .0, (omega (arith, s .pre .0 .1), masked-within (s .args .key) (s .pre .1 .1) 0 (omega (arith, s .pre .1 .0)) (c .masked-word .ensures)))
 
 loop-holds : tie.Need-loop-holds Inv-loop μ-loop
 loop-holds c =
     let masked-word = c .before .masked-word in
     let s = c .before .before in
-    (c .skip-masked .ensures .low, masked-passed (s .args .key) 0 (omega (arith, s .pre .1 .0)) (s .pre .1 .1 .0) (masked-word .ensures) (c .skip-masked .ensures) .none)
+    (c .skip-masked .ensures .low, masked-passed (s .args .key) 0 (omega (arith, s .pre .1 .0)) (s .pre .1 .1) (masked-word .ensures) (c .skip-masked .ensures) .none)
 
 mul-has-key : tie.Need-mul-has-key Inv-loop μ-loop
 mul-has-key c =
@@ -68,7 +68,7 @@ skip-masked-requires-2 c κs =
     let masked-word = c .before .before .before .before .before .masked-word in
     let loop-test = c .before .before .loop-test in
     let s = c .before .before .before .before .before .before in
-    (s .pre .0 .0, (omega (arith, loop-test .taken), masked-within (s .args .key) (s .pre .1 .1 .0) 0 (omega (arith, s .pre .1 .0)) (masked-word .ensures)))
+    (s .pre .0 .0, (omega (arith, loop-test .taken), masked-within (s .args .key) (s .pre .1 .1) 0 (omega (arith, s .pre .1 .0)) (masked-word .ensures)))
 
 loop-less : tie.Need-loop-less Inv-loop μ-loop
 loop-less c = omega (arith, c .skip-masked2 .ensures .low, c .before .before .before .loop-test .taken)
@@ -81,7 +81,7 @@ loop-again c =
     let has-key = c .before .before .has-key in
     let s = c .before .before .before .before .before .before .before in
     let miss = tested (hasSought (s .args .key)) (s .args .area .now) (s .args .table) (l .k) (loop-test .taken) (has-key .ensures) (c .before .if1 .left) in
-    let past = masked-passed (s .args .key) 0 (omega (arith, s .pre .1 .0)) (s .pre .1 .1 .0) (masked-word .ensures) (c .skip-masked2 .ensures) .none in
+    let past = masked-passed (s .args .key) 0 (omega (arith, s .pre .1 .0)) (s .pre .1 .1) (masked-word .ensures) (c .skip-masked2 .ensures) .none in
     (omega (arith, l .inv .0, c .skip-masked2 .ensures .low), none-more (l .k) _ (l .inv .1) miss past)
 
 returns-2 : tie.Need-returns-2 Inv-loop μ-loop

@@ -1,6 +1,5 @@
 use mathlib.Core.Path.{sym, _∙_}
 use borrow.Author.Tests.{not-true}
-use Rattle.rows.proofs.FoldLaws.{plain-folded}
 use Rattle.skips.proofs.SkipLaws.{words-within, without}
 use Rattle.scans.proofs.has_composite.Statement.{statement}
 use Rattle.scans.proofs.has_composite.Tie as tie
@@ -15,9 +14,7 @@ returns c =
     sym (without (a .key) (s .pre .1 .0 .0) (s .pre .1 .0 .1) (s .pre .0 .1) (s .pre .1 .1) _ (sym (c .before .is-alike .ensures) ∙ not-true _ (c .if1 .taken)))
 
 has-key-requires : tie.Need-has-key-requires
-has-key-requires c κs =
-    let s = c .before .before in
-    (s .pre .0 .0, (s .pre .0 .1, plain-folded (s .args .key) (s .pre .1 .0 .1)))
+has-key-requires c κs = c .before .before .pre .0
 
 returns-2 : tie.Need-returns-2
 returns-2 c = c .has-key .ensures
