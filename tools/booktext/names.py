@@ -2,8 +2,8 @@
 
 import re
 
-# What is read is also what is shown. Nothing stands for another character, so \ is in no name.
-CHARACTERS = r"[ !#-\[\]-~]"
+# What is read is also what is shown. Nothing stands for another character, so a quote is in no name.
+CHARACTERS = "[ !#-~]"
 MOST_CHARACTERS = 8
 NAME = re.compile(f"{CHARACTERS}{{1,{MOST_CHARACTERS}}}")
 
@@ -27,5 +27,5 @@ def name_fault(name):
         return None
     wrong = re.sub(CHARACTERS, "", name)
     if wrong:
-        return rf"expected characters from space to ~ except \ in a name, found {wrong[0]!r}"
+        return f"expected characters from space to ~ in a name, found {wrong[0]!r}"
     return f"expected a name of 1 to {MOST_CHARACTERS} characters, found {len(name)}"

@@ -26,15 +26,17 @@ NAMES = [
     ('"null"', 0x6C6C756E),
     ('"#"', 0x23),
     ('"a # b"', 0x6220232061),
+    (r'"\"', 0x5C),
+    (r'"L\n2"', 0x326E5C4C),
     ("\"it's\"", 0x73277469),
     ('"ABCDEFGH"', 0x4847464544434241),
     ('"~~~~~~~~"', 0x7E7E7E7E7E7E7E7E),
     ('"=,.()?->"', 0x3E2D3F29282E2C3D),
 ]
-# Values that are no names: 0, bytes that are not printable, a quote, \, bytes after a zero byte.
+# Values that are no names: 0, bytes that are not printable, a quote, bytes after a zero byte.
 NO_NAMES = [
-    0, 1, 9, 0x1F, 0x7F, 0x80, 0xC4, 0x22, 0x5C, 0x4C00, 0x32004C, 0x32664C << 8, 0x4C224C, 0x4C5C4C,
-    0x0A4C, 0x7F32664C, 0x32664C | 1 << 56, -1, -0x32664C, LEAST, LEAST + 0x32664C, MOST,
+    0, 1, 9, 0x1F, 0x7F, 0x80, 0xC4, 0x22, 0x4C00, 0x32004C, 0x32664C << 8, 0x4C224C, 0x0A4C,
+    0x7F32664C, 0x32664C | 1 << 56, -1, -0x32664C, LEAST, LEAST + 0x32664C, MOST,
 ]
 # A line with names, and as it is written: only a folded column has its values as names.
 LINES = [
@@ -97,7 +99,7 @@ def check_every_byte(checks):
     """A byte at the first, a middle and the last place of a value, against what a name may have."""
     schema = read_text(BOOK).to_bytes()
     for byte in range(256):
-        named = 0x20 <= byte <= 0x7E and byte not in (0x22, 0x5C)
+        named = 0x20 <= byte <= 0x7E and byte != 0x22
         for before, after in ((b"", b""), (b"", b"Lf2"), (b"Lf", b"2"), (b"Lf23456", b"")):
             value = before + bytes([byte]) + after
             word = int.from_bytes(value.ljust(8, b"\0"), "little", signed=True)
