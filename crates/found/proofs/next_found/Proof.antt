@@ -12,7 +12,7 @@ first-null-requires c κs =
     let s = c .before .before .before .before in
     let key = s .pre .1 .key in
     let column = key .columns .within 0 (omega (arith, s .pre .1 .one-column)) in
-    (s .pre .0, omega (arith, column, s .pre .0 .0 .narrow))
+    ((s .pre .0 .0, omega (arith, s .pre .0 .1)), omega (arith, column, s .pre .0 .0 .narrow))
 
 returns : tie.Need-returns
 returns c =
@@ -22,7 +22,7 @@ returns c =
 first-with-key-requires : tie.Need-first-with-key-requires
 first-with-key-requires c κs =
     let s = c .before .before .before in
-    (s .pre .0, (omega (arith, s .pre .1 .one-column), s .pre .1 .key))
+    ((s .pre .0 .0, omega (arith, s .pre .0 .1)), (omega (arith, s .pre .1 .one-column), s .pre .1 .key))
 
 returns-2 : tie.Need-returns-2
 returns-2 c =
