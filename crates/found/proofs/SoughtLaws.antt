@@ -114,15 +114,10 @@ module _ {b : List ℕ} {t : ℕ} {sought : Cell} {x : Seeking} (k : SeekingOf b
   unfolding changesBy foundChanges
   changes-sought w = λ i. rowsFound (schemaOf b) t (λ row. k .same row i) (givenImage (tableOf (schemaOf b) t .columns) given) w
 
--- ---- by what is sought
-module _ (x : Seeking) (a : List ℤ) {from i : ℕ} where
-  pub null-by : x .null ≡ true → FirstRow (hasNull (getD (x .key .cs) 0 0)) a (x .rows) from i → FirstRow (foundBy x) a (x .rows) from i
-  unfolding foundBy
-  null-by e = first-same a (x .rows) (λ row. sym (ap (λ (n : Bool). cond n (hasNull (getD (x .key .cs) 0 0) row) (hasSought (x .key) row)) e))
-
-  pub value-by : x .null ≡ false → FirstRow (hasSought (x .key)) a (x .rows) from i → FirstRow (foundBy x) a (x .rows) from i
-  unfolding foundBy
-  value-by e = first-same a (x .rows) (λ row. sym (ap (λ (n : Bool). cond n (hasNull (getD (x .key .cs) 0 0) row) (hasSought (x .key) row)) e))
+-- ---- the search for NULL or the one for a value, by what is sought
+pub found-by : (x : Seeking) (a : List ℤ) {null : Bool} {from i : ℕ} → x .null ≡ null → FirstRow (λ row. cond null (hasNull (getD (x .key .cs) 0 0) row) (hasSought (x .key) row)) a (x .rows) from i → FirstRow (foundBy x) a (x .rows) from i
+unfolding foundBy
+found-by x a e = first-same a (x .rows) (λ row. sym (ap (λ (n : Bool). cond n (hasNull (getD (x .key .cs) 0 0) row) (hasSought (x .key) row)) e))
 
 -- ---- the rows of a table
 pub found-in-table : (b : List ℕ) (a : List ℤ) (t : ℕ) (x : Seeking) → Ready b a → Seeks b t x → {from i : ℕ} → FirstRow (foundBy x) a (x .rows) from i

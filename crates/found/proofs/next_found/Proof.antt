@@ -1,6 +1,6 @@
 use native.Mathlib.Omega.{arith}
 use borrow.Author.Needs.{needs}
-use Rattle.found.proofs.SoughtLaws.{null-by, value-by}
+use Rattle.found.proofs.SoughtLaws.{found-by}
 use Rattle.found.proofs.next_found.Statement.{statement}
 use Rattle.found.proofs.next_found.Tie as tie
 
@@ -17,7 +17,7 @@ first-null-requires c κs =
 returns : tie.Need-returns
 returns c =
     let s = c .before .before .before .before .before in
-    null-by (s .args .x) (s .args .area .now) (c .before .before .if1 .taken) (c .first-null .ensures)
+    found-by (s .args .x) (s .args .area .now) (c .before .before .if1 .taken) (c .first-null .ensures)
 
 first-with-key-requires : tie.Need-first-with-key-requires
 first-with-key-requires c κs =
@@ -27,7 +27,7 @@ first-with-key-requires c κs =
 returns-2 : tie.Need-returns-2
 returns-2 c =
     let s = c .before .before .before .before in
-    value-by (s .args .x) (s .args .area .now) (c .before .if1 .left) (c .first-with-key .ensures)
+    found-by (s .args .x) (s .args .area .now) (c .before .if1 .left) (c .first-with-key .ensures)
 
 pub next-found-spec : {M : Type 1} → statement M
 next-found-spec =

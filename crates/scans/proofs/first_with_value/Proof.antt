@@ -27,7 +27,7 @@ add-skip-column : tie.Need-add-skip-column Inv-loop μ-loop
 add-skip-column c = omega (arith, c .pre .0 .0 .narrow, c .pre .1)
 
 skip-column-requires : tie.Need-skip-column-requires Inv-loop μ-loop
-skip-column-requires c κs = (c .pre .0 .0, (c .pre .0 .1, omega (arith, c .pre .1)))
+skip-column-requires c κs = (c .pre .0 .0, (omega (arith, c .pre .0 .1), omega (arith, c .pre .1)))
 
 loop-holds : tie.Need-loop-holds Inv-loop μ-loop
 loop-holds c =
