@@ -6,7 +6,7 @@ use mathlib.Core.List.{List, []}
 use Prim.Native.Nat.{ℕ}
 use lib.Dec.{eqb}
 use lib.ListN.{getD}
-use Rattle.schema.specs.Records.{ForeignKey}
+use Rattle.schema.specs.Records.{ForeignKey, childKey, parentKey}
 use Rattle.rules.specs.Lists.{any}
 use Rattle.rules.specs.Rows.{Row, Tables}
 use Rattle.rules.specs.Keys.{fullKey, halfDue, due, serves, orphan, orphans, sameParentKey, fires}
@@ -16,7 +16,7 @@ use Rattle.bridge.proofs.CountLaws.{count-none}
 module _ (k : ForeignKey) (u : k .broken ≡ true) where
   pub broken-due : (c : Row) → due k c ≡ false
   unfolding due
-  broken-due c = ap (λ b. not b && (fullKey (k .childColumns) c || halfDue (k .match) (k .childColumns) c)) u
+  broken-due c = ap (λ b. not b && (fullKey (childKey k) c || halfDue (k .match) (childKey k) c)) u
 
   pub broken-orphan : (ps : List Row) (c : Row) → orphan k ps c ≡ false
   unfolding orphan
@@ -30,5 +30,5 @@ module _ (k : ForeignKey) (u : k .broken ≡ true) where
   pub broken-still : (new : Row) (t : ℕ) (old : Row) → fires new t old k ≡ false
   unfolding fires
   broken-still new t old =
-      ap (λ b. eqb (k .parent) t && (not b && (fullKey (k .parentColumns) old && not (sameParentKey k old new)))) u
+      ap (λ b. eqb (k .parent) t && (not b && (fullKey (parentKey k) old && not (sameParentKey k old new)))) u
       ∙ and-none (eqb (k .parent) t)

@@ -93,3 +93,15 @@ module _ {A : Type 0} (p : A → Bool) where
   unfolding any
   any-never e [] = refl
   any-never e (x ∷ xs) = any-cons x xs ∙ rw (e x, any-never e xs)
+
+-- where none passes a test, none passes one that is harder
+pub any-less : {A : Type 0} (q p : A → Bool) → ((x : A) → q x ≡ true → p x ≡ true) → (xs : List A) → any p xs ≡ false → any q xs ≡ false
+unfolding any
+any-less q p f [] h = refl
+any-less q p f (x ∷ xs) h =
+    let none = any-neither p x xs h in
+    any-cons q x xs ∙ rw (not-passed (q x) (f x) (none .0), any-less q p f xs (none .1)) refl
+  where
+    not-passed : (b : Bool) → (b ≡ true → p x ≡ true) → p x ≡ false → b ≡ false
+    not-passed true g e = absurd (false≢true (sym e ∙ g refl))
+    not-passed false g e = refl

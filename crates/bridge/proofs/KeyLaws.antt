@@ -9,14 +9,14 @@ use lib.IntN.{ℤ}
 use lib.ListN.{length, getD, drop, replicate}
 use Rattle.schema.specs.Bytes.{bit}
 use Rattle.schema.specs.Ranges.{all}
-use Rattle.schema.specs.Records.{ForeignKey}
+use Rattle.schema.specs.Records.{Window, ForeignKey, childKey}
 use Rattle.schema.specs.declared.Match.{Match}
 use Rattle.schema.specs.declared.Match.the-variants.{Simple, Full}
 use Rattle.schema.proofs.RangeLaws.{and-left, and-right}
 use Rattle.rules.specs.Lists.{𝟘, padded, any}
 use Rattle.rules.specs.Values.{natOf, sameWord, folded, sameValue}
 use Rattle.rules.specs.Rows.{Row, liveState, live, nullAt, valueAt}
-use Rattle.rules.specs.Keys.{sameCell, sameKey, fullKey, halfKey, mapsTo, halfDue, due, serves, orphan}
+use Rattle.rules.specs.Keys.{sameCell, sameKey, fullKey, halfKey, firstDay, endDay, isWithin, inWindow, mapsTo, halfDue, due, serves, orphan}
 use Rattle.bridge.proofs.Bits.{both-ways, same-eq, same-refl}
 use Rattle.bridge.proofs.Tests.{fails, and-same, or-same}
 use Rattle.bridge.proofs.CountLaws.{any-cons}
@@ -158,19 +158,41 @@ module _ (x x′ : Row) (same : (i : ℕ) → getD x i 𝟘 ≡ getD x′ i 𝟘
   half-due-same Simple cs = refl
   half-due-same Full cs = half-same cs
 
+  null-same : (c : ℕ) → nullAt x c ≡ nullAt x′ c
+  unfolding nullAt
+  null-same c = ap (λ (z : ℤ). bit c (natOf z)) (same 0)
+
+  value-same : (c : ℕ) → valueAt x c ≡ valueAt x′ c
+  unfolding valueAt
+  value-same c = same (suc c)
+
+  -- the day of a child row, the window of a parent row
+  day-same : (p : Row) (w : Window) → inWindow x p w ≡ inWindow x′ p w
+  unfolding inWindow
+  day-same p w =
+      λ i. (not (null-same (w .day) i) && (not (nullAt p (w .first)) && not (nullAt p (suc (w .first)))))
+      && isWithin (firstDay w p) (endDay w p) (value-same (w .day) i)
+
+  window-same : (c : Row) (w : Window) → inWindow c x w ≡ inWindow c x′ w
+  unfolding inWindow firstDay endDay
+  window-same c w =
+      λ i. (not (nullAt c (w .day)) && (not (null-same (w .first) i) && not (null-same (suc (w .first)) i)))
+      && isWithin (value-same (w .first) i) (value-same (suc (w .first)) i) (valueAt c (w .day))
+
   module _ (k : ForeignKey) where
     due-same : due k x ≡ due k x′
     unfolding due
-    due-same = ap (λ (b : Bool). not (k .broken) && b) (or-same (full-same (k .childColumns)) (half-due-same (k .match) (k .childColumns)))
+    due-same = ap (λ (b : Bool). not (k .broken) && b) (or-same (full-same (childKey k)) (half-due-same (k .match) (childKey k)))
 
-    serves-same : (p : Row) → serves k x p ≡ serves k x′ p
+    -- whether a row is served by another
+    pub serves-same : (p : Row) → serves k x p ≡ serves k x′ p
     unfolding serves mapsTo
-    serves-same p = ap (λ (b : Bool). live p && b) (key-left (k .folds) p (k .childColumns) (k .parentColumns))
+    serves-same p = λ i. live p && (key-left (k .folds) p (k .childColumns) (k .parentColumns) i && all (λ w. day-same p w i) (k .windows))
 
-    -- whether a row serves another
+    -- whether it serves another
     pub gives-same : (c : Row) → serves k c x ≡ serves k c x′
     unfolding serves mapsTo
-    gives-same c = ap₂ (λ (a b : Bool). a && b) live-same (key-right (k .folds) c (k .childColumns) (k .parentColumns))
+    gives-same c = λ i. live-same i && (key-right (k .folds) c (k .childColumns) (k .parentColumns) i && all (λ w. window-same c w i) (k .windows))
 
     -- whether a row is an orphan
     pub orphan-same : (ps : List Row) → orphan k ps x ≡ orphan k ps x′

@@ -19,6 +19,8 @@ pub mod Bits
 pub mod HoldLaws
 pub mod SoundLaws
 pub mod KeyLaws
+pub mod WindowLaws
+pub mod MapLaws
 pub mod NullKeys
 pub mod BrokenKeys
 pub mod ValueLaws

@@ -5,17 +5,17 @@ use mathlib.Core.Bool.{Bool, true, false, not, _&&_, _||_, false≢true}
 use mathlib.Core.List.{List}
 use Prim.Native.Nat.{ℕ}
 use lib.ListN.{length}
-use Rattle.schema.specs.Records.{ForeignKey}
+use Rattle.schema.specs.Records.{ForeignKey, childKey}
 use Rattle.schema.specs.Ranges.{all}
 use Rattle.schema.specs.declared.Match.{Match}
 use Rattle.schema.specs.declared.Match.the-variants.{Simple, Full}
 use Rattle.schema.proofs.RangeLaws.{and-left, and-right}
 use Rattle.rules.specs.Lists.{any}
 use Rattle.rules.specs.Rows.{Row, live, nullAt}
-use Rattle.rules.specs.Keys.{sameKey, fullKey, halfKey, mapsTo, halfDue, due, serves, orphan}
+use Rattle.rules.specs.Keys.{fullKey, halfKey, mapsTo, halfDue, due, serves, orphan}
 use Rattle.bridge.proofs.Tests.{and-none}
 use Rattle.bridge.proofs.CountLaws.{any-never}
-use Rattle.bridge.proofs.KeyLaws.{full-left}
+use Rattle.bridge.proofs.MapLaws.{child-full}
 
 -- ---- one row
 module _ (x : Row) where
@@ -37,8 +37,8 @@ module _ (x : Row) where
 pub vacant-orphan : (k : ForeignKey) (ps : List Row) (x : Row) → live x ≡ false → orphan k ps x ≡ false
 unfolding orphan due fullKey
 vacant-orphan k ps x h =
-    ap (λ b. (not (k .broken) && ((b && not (any (nullAt x) (k .childColumns))) || halfDue (k .match) (k .childColumns) x)) && not (any (serves k x) ps)) h
-    ∙ by (halfDue (k .match) (k .childColumns) x) (half-due-live x (k .match) (k .childColumns))
+    ap (λ b. (not (k .broken) && ((b && not (any (nullAt x) (childKey k))) || halfDue (k .match) (childKey k) x)) && not (any (serves k x) ps)) h
+    ∙ by (halfDue (k .match) (childKey k) x) (half-due-live x (k .match) (childKey k))
   where
     by : (d : Bool) → (d ≡ true → live x ≡ true) → (not (k .broken) && d) && not (any (serves k x) ps) ≡ false
     by true e = absurd (false≢true (sym h ∙ e refl))
@@ -46,18 +46,18 @@ vacant-orphan k ps x h =
 
 -- ---- a child row x of a foreign key that is not broken
 module _ (k : ForeignKey) (whole : k .broken ≡ false) (x : Row) where
-  pub whole-due : due k x ≡ fullKey (k .childColumns) x || halfDue (k .match) (k .childColumns) x
+  pub whole-due : due k x ≡ fullKey (childKey k) x || halfDue (k .match) (childKey k) x
   unfolding due
-  whole-due = ap (λ b. not b && (fullKey (k .childColumns) x || halfDue (k .match) (k .childColumns) x)) whole
+  whole-due = ap (λ b. not b && (fullKey (childKey k) x || halfDue (k .match) (childKey k) x)) whole
 
 -- ---- its columns as many on both sides
 module _ (k : ForeignKey) (same-count : length (k .childColumns) ≡ length (k .parentColumns)) (x : Row) where
   -- a row that maps to another needs a parent exactly if it is live
   pub mapped-due : k .broken ≡ false → (p : Row) → mapsTo k x p ≡ true → due k x ≡ live x
-  unfolding fullKey mapsTo
+  unfolding fullKey
   mapped-due whole p h =
-      let full : any (nullAt x) (k .childColumns) ≡ false = full-left x p (k .folds) (k .childColumns) (k .parentColumns) same-count h in
-      whole-due k whole x ∙ ap (λ b. (live x && not b) || halfDue (k .match) (k .childColumns) x) full ∙ by (live x) (halfDue (k .match) (k .childColumns) x) (half-due-live x (k .match) (k .childColumns))
+      let full : any (nullAt x) (childKey k) ≡ false = child-full k same-count p x h in
+      whole-due k whole x ∙ ap (λ b. (live x && not b) || halfDue (k .match) (childKey k) x) full ∙ by (live x) (halfDue (k .match) (childKey k) x) (half-due-live x (k .match) (childKey k))
     where
       by : (l d : Bool) → (d ≡ true → l ≡ true) → (l && true) || d ≡ l
       by true d e = refl
@@ -65,22 +65,22 @@ module _ (k : ForeignKey) (same-count : length (k .childColumns) ≡ length (k .
       by false false e = refl
 
   -- no row serves a half-filled one: NULL equals nothing
-  pub half-unserved : halfKey (k .childColumns) x ≡ true → (p : Row) → serves k x p ≡ false
-  unfolding serves mapsTo
-  half-unserved h p = by (sameKey (k .folds) (k .childColumns) (k .parentColumns) x p) refl
+  pub half-unserved : halfKey (childKey k) x ≡ true → (p : Row) → serves k x p ≡ false
+  unfolding serves
+  half-unserved h p = by (mapsTo k x p) refl
     where
-      by : (m : Bool) → sameKey (k .folds) (k .childColumns) (k .parentColumns) x p ≡ m → live p && m ≡ false
-      by true e = absurd (false≢true (sym (full-left x p (k .folds) (k .childColumns) (k .parentColumns) same-count e) ∙ half-null x (k .childColumns) h))
+      by : (m : Bool) → mapsTo k x p ≡ m → live p && m ≡ false
+      by true e = absurd (false≢true (sym (child-full k same-count p x e) ∙ half-null x (childKey k) h))
       by false e = and-none (live p)
 
   -- so one that needs a parent with NULL in its key is an orphan, whatever the parent rows
-  pub half-orphan : k .broken ≡ false → (ps : List Row) → fullKey (k .childColumns) x ≡ false → orphan k ps x ≡ halfDue (k .match) (k .childColumns) x
+  pub half-orphan : k .broken ≡ false → (ps : List Row) → fullKey (childKey k) x ≡ false → orphan k ps x ≡ halfDue (k .match) (childKey k) x
   unfolding orphan
   half-orphan whole ps h =
       ap (λ b. b && not (any (serves k x) ps)) (whole-due k whole x)
-      ∙ ap (λ b. (b || halfDue (k .match) (k .childColumns) x) && not (any (serves k x) ps)) h
-      ∙ by (halfDue (k .match) (k .childColumns) x) (half-due-key x (k .match) (k .childColumns))
+      ∙ ap (λ b. (b || halfDue (k .match) (childKey k) x) && not (any (serves k x) ps)) h
+      ∙ by (halfDue (k .match) (childKey k) x) (half-due-key x (k .match) (childKey k))
     where
-      by : (d : Bool) → (d ≡ true → halfKey (k .childColumns) x ≡ true) → d && not (any (serves k x) ps) ≡ d
+      by : (d : Bool) → (d ≡ true → halfKey (childKey k) x ≡ true) → d && not (any (serves k x) ps) ≡ d
       by true e = ap not (any-never (serves k x) (half-unserved (e refl)) ps)
       by false e = refl

@@ -17,6 +17,10 @@ pub and-none : (b : Bool) → b && false ≡ false
 and-none true = refl
 and-none false = refl
 
+pub and-assoc : (a b c : Bool) → a && (b && c) ≡ (a && b) && c
+and-assoc true b c = refl
+and-assoc false b c = refl
+
 -- tests that agree one by one
 pub and-same : {a b p q : Bool} → a ≡ p → b ≡ q → a && b ≡ p && q
 and-same e f = rw (e, f) refl

@@ -22,7 +22,7 @@ use Rattle.rules.specs.declared.Verdict.the-variants.{Pass, Fail}
 use Rattle.rules.specs.Rows.{Row, Tables, rowAt, image, putRow, overwrite}
 use Rattle.rules.specs.State.{placed}
 use Rattle.rules.specs.declared.Refusal.{Refusal}
-use Rattle.rules.specs.declared.Refusal.the-variants.{JournalFull, TooDeep, BrokenKey, NotNull, NotUnique, Restricted}
+use Rattle.rules.specs.declared.Refusal.the-variants.{JournalFull, TooDeep, BrokenKey, NotNull, NotUnique, BadWindow, Restricted}
 use Rattle.schema.proofs.SchemaLaws.{Valid}
 use Rattle.schema.specs.Ranges.{all}
 use Rattle.schema.specs.Records.{tableOf, ForeignKey, Schema}
@@ -112,7 +112,7 @@ one-write {s} v t r vs w sh e h =
       widths-are = widths-put (w .tabs) t r (overwrite (rowAt t r (w .tabs)) vs) (length-overwrite (rowAt t r (w .tabs)) vs);
     }
 
--- 14 to 18 and 23: a row change is refused by no other
+-- 14 to 18, 23 and 24: a row change is refused by no other
 unfoldable pub ofChange : Refusal → Bool
 ofChange c = leb 14 (number c) && (leb (number c) 18 || leb 23 (number c))
 
@@ -161,7 +161,8 @@ admits-code s t r new w c e =
     (λ d f. failing-code _ BrokenKey d _ refl
     (λ d f. failing-code _ NotNull d _ refl
     (λ d f. failing-code _ NotUnique d _ refl
-    (λ d f. absurd (false≢true (ap failed f))) f) f) f)
+    (λ d f. failing-code _ BadWindow d _ refl
+    (λ d f. absurd (false≢true (ap failed f))) f) f) f) f)
     e
 
 -- a change that is admitted has a spare record
@@ -190,7 +191,7 @@ module _ (change : Change) {s : Schema} (valid : Valid s) (new : List ℤ) (fine
   fine-taken : (a : Action) (k : ForeignKey) (i : ℕ) (x : Row) → inTable s (k .child) i ≡ true → (w : Work) → Shaped s (w .tabs) → Fine s w (taken change s new a k i x w)
   unfolding taken ofChange number
   fine-taken NoAction k i x h w sh = idle w
-  fine-taken Restrict k i x h w sh = halted Restricted w refl
+  fine-taken Restrict k i x h w sh = fine-given _ _ (halted Restricted w refl)
   fine-taken SetNull k i x h w sh = fine _ _ _ h w sh
   fine-taken SetDefault k i x h w sh = fine _ _ _ h w sh
   fine-taken Cascade k i x h w sh = fine _ _ _ h w sh

@@ -8,7 +8,13 @@ pub mod Undone
 pub mod NoneFound
 pub mod Changed
 pub mod Demand3
+pub mod Writes
 pub mod UsedKeys
 pub mod Broken
 pub mod Reached
+pub mod Kept
+pub mod WrittenRows
+pub mod Clashes
+pub mod WindowWrites
+pub mod Windows
 pub mod AllOrphans

@@ -60,7 +60,7 @@ unfolding place
 ends-release a e x k h =
     λ i. record { line = joined x (k .line); pile = drop-of-length-le (k .pile) {i = suc (length (k .pile)) - a} (omega arith) i }
 
--- a row change is refused by 14 to 18 and 23
+-- a row change is refused by 14 to 18, 23 and 24
 change-regular : (r : Refusal) → ofChange r ≡ true → regular r ≡ true
 unfolding ofChange regular
 change-regular r h =

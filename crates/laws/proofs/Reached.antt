@@ -41,7 +41,7 @@ reached-next {bs} {ws} h c =
 
 -- the book
 module _ {bs : List ℕ} {ws : List ℤ} (h : Reached bs ws) where
-  reached-book : Book
+  unfoldable pub reached-book : Book
   reached-book = run (schemaOf bs) (h .calls) (fresh (schemaOf bs)) .1
 
   reached-good : Good (schemaOf bs) reached-book
@@ -55,7 +55,7 @@ module _ {bs : List ℕ} {ws : List ℤ} (h : Reached bs ws) where
       ∙ ap {B = List ℤ} (λ l. runOn bs (h .calls) l .1) (sym (words-fresh (schemaOf bs)))
       ∙ ap {B = List ℤ} (λ (r : List Logged × List ℤ). r .1) (follows bs (h .accepted) (fresh-good bs (h .accepted)) (fresh-none (schemaOf bs)) (h .calls))
 
-  reached-view : view (schemaOf bs) ws ≡ reached-book
+  pub reached-view : view (schemaOf bs) ws ≡ reached-book
   reached-view = ap (view (schemaOf bs)) reached-words ∙ view-words (good-formed (accepted-valid bs (h .accepted)) reached-good)
 
   -- refusals 3 and 10 do not apply

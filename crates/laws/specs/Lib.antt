@@ -1,3 +1,4 @@
 pub mod Regular
 pub mod Reached
 pub mod UsedKeys
+pub mod Windows

@@ -6,9 +6,8 @@ use mathlib.Core.List.{List, [], _∷_}
 use Prim.Native.Nat.{ℕ, zero, suc, _+_, _<_}
 use native.Mathlib.Omega.{arith}
 use lib.ListN.{length, getD, set}
-use Rattle.rules.specs.Lists.{any, count, one}
+use Rattle.rules.specs.Lists.{any, count, one, except}
 use Rattle.bridge.proofs.CountLaws.{any-cons, count-cons}
-use Rattle.moves.specs.Movement.{except}
 
 or-swap : (a b c : Bool) → a || (b || c) ≡ b || (a || c)
 or-swap true true c = refl

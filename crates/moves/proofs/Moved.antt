@@ -11,12 +11,12 @@ use lib.IntN.{ℤ, pos, _+ℤ_, _-ℤ_, +ℤ-assoc, -ℤ-+ℤ-cancel, +ℤ-neg�
 use lib.ListN.{length, getD, set}
 use lib.Seq.{getD-set-same, getD-set-other, lt-length-set}
 use Rattle.schema.specs.Records.{ForeignKey}
-use Rattle.rules.specs.Lists.{any, count, one}
+use Rattle.rules.specs.Lists.{any, count, one, except}
 use Rattle.rules.specs.Rows.{Row, Tables, rowAt, putRow}
 use Rattle.rules.specs.Keys.{due, serves, orphan, orphans}
 use Rattle.bridge.proofs.Tests.{holds, passes}
 use Rattle.bridge.proofs.CountLaws.{any-cons}
-use Rattle.moves.specs.Movement.{pick, except, exceptIf, stranded, ownOrphan, strandedRows, movement}
+use Rattle.moves.specs.Movement.{pick, exceptIf, stranded, ownOrphan, strandedRows, movement}
 use Rattle.moves.proofs.ExceptLaws.{any-except, count-except, except-set}
 use Rattle.moves.proofs.Stranded.{stranded-count, stranded-same}
 

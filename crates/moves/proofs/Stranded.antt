@@ -10,7 +10,7 @@ use Rattle.rules.specs.Lists.{any, count, one}
 use Rattle.rules.specs.Rows.{Row}
 use Rattle.rules.specs.Keys.{due, serves, orphan}
 use Rattle.bridge.proofs.CountLaws.{any-cons, count-cons, count-none}
-use Rattle.moves.specs.Movement.{stranded}
+use Rattle.moves.specs.Movement.{unserved, stranded}
 
 -- d due, a and b served by the old and by the new words, o by another
 stranded-one : (d a b o : Bool)
@@ -33,7 +33,7 @@ neither false a b o e = refl
 module _ (k : ForeignKey) where
   pub stranded-count : (x y : Row) (ps cs : List Row)
       → count (orphan k (y ∷ ps)) cs + count (stranded k y x ps) cs ≡ count (orphan k (x ∷ ps)) cs + count (stranded k x y ps) cs
-  unfolding count orphan stranded
+  unfolding count orphan stranded unserved
   stranded-count x y ps [] = refl
   stranded-count x y ps (c ∷ cs) =
       let e : count (orphan k (y ∷ ps)) cs + count (stranded k y x ps) cs ≡ count (orphan k (x ∷ ps)) cs + count (stranded k x y ps) cs
@@ -47,5 +47,5 @@ module _ (k : ForeignKey) where
 
   -- old and new words serve the same rows
   pub stranded-same : (x y : Row) (ps cs : List Row) → ((c : Row) → serves k c x ≡ serves k c y) → count (stranded k x y ps) cs ≡ 0
-  unfolding stranded
+  unfolding stranded unserved
   stranded-same x y ps cs e = count-none (stranded k x y ps) (λ c. neither (due k c) (serves k c x) (serves k c y) (any (serves k c) ps) (e c)) cs

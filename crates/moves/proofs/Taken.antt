@@ -1,40 +1,41 @@
--- The child rows that a write strands are those that the old row's actions take, unless another parent row has the old key.
+-- The child rows that a write strands are those that the old row's actions take and that no other parent row serves.
 -- Assumes nothing.
 use mathlib.Core.Path.{_≡_, refl, sym, _∙_, ap}
 use mathlib.Core.Bool.{Bool, true, false, not, _&&_, false≢true}
-use mathlib.Core.List.{List, []}
+use mathlib.Core.List.{List, [], _∷_}
 use Prim.Native.Nat.{ℕ}
+use borrow.Author.Tests.{not-false}
 use lib.Dec.{eqb}
 use lib.ListN.{length, getD}
-use Rattle.schema.specs.Records.{ForeignKey}
-use Rattle.rules.specs.Lists.{any, count}
+use Rattle.schema.specs.Records.{Window, ForeignKey, childKey, parentKey}
+use Rattle.schema.proofs.RangeLaws.{and-left, and-right}
+use Rattle.rules.specs.Lists.{any, count, except}
 use Rattle.rules.specs.Rows.{Row, Tables, live, nullAt}
-use Rattle.rules.specs.Keys.{sameKey, fullKey, halfKey, mapsTo, due, serves, takes, sameParentKey, fires}
-use Rattle.bridge.proofs.CountLaws.{count-none}
-use Rattle.bridge.proofs.Tests.{and-none}
-use Rattle.bridge.proofs.KeyLaws.{key-sym, key-trans, full-right}
+use Rattle.rules.specs.Keys.{fullKey, halfKey, mapsTo, due, serves, takes, sameParentKey, fires}
+use Rattle.rules.specs.Change.{clashes}
+use Rattle.bridge.proofs.CountLaws.{any-less, count-none}
+use Rattle.bridge.proofs.Tests.{and-none, fails}
+use Rattle.bridge.proofs.MapLaws.{parent-full, served-same, served-twin, served-clashes}
 use Rattle.bridge.proofs.NullKeys.{mapped-due, half-unserved}
 use Rattle.bridge.proofs.BrokenKeys.{broken-due, broken-still}
-use Rattle.moves.specs.Movement.{pick, except, exceptIf, stranded, strandedRows}
+use Rattle.moves.specs.Movement.{pick, exceptIf, unserved, stranded, strandedRows}
 
 -- ---- tests in another order
 
-regroup : (due by y others : Bool) → due && (by && (y && others)) ≡ (y && others) && (due && by)
-regroup true true true true = refl
-regroup true true true false = refl
-regroup true true false others = refl
-regroup true false true true = refl
-regroup true false true false = refl
-regroup true false false others = refl
-regroup false by true true = refl
-regroup false by true false = refl
-regroup false by false others = refl
-
 -- where m makes d and l the same
-swap : (d l n m : Bool) → (m ≡ true → d ≡ l) → d && (n && m) ≡ n && (l && m)
-swap d l true true h = ap (λ b. b && true) (h refl)
-swap d l false true h = and-none d
-swap d l n false h = ap (λ b. d && b) (and-none n) ∙ and-none d ∙ sym (ap (λ b. n && b) (and-none l) ∙ and-none n)
+swap : (d l n m u : Bool) → (m ≡ true → d ≡ l) → d && ((n && m) && u) ≡ n && ((l && m) && u)
+swap d l true true u h = ap (λ b. b && u) (h refl) ∙ by l u
+  where
+    by : (l u : Bool) → l && u ≡ (l && true) && u
+    by true u = refl
+    by false u = refl
+swap d l false true u h = and-none d
+swap d l n false u h = ap (λ b. d && (b && u)) (and-none n) ∙ and-none d ∙ sym (ap (λ b. n && (b && u)) (and-none l) ∙ and-none n)
+
+-- a test that m turns into another
+turned : (l m u g : Bool) → (m ≡ true → u ≡ g) → (l && m) && u ≡ (l && m) && g
+turned l true u g h = ap (λ b. (l && true) && b) (h refl)
+turned l false u g h = ap (λ b. b && u) (and-none l) ∙ sym (ap (λ b. b && g) (and-none l))
 
 count-given : (b : Bool) (p : Row → Bool) (xs : List Row) → count (λ c. b && p c) xs ≡ pick b (count p xs)
 unfolding pick
@@ -42,74 +43,76 @@ count-given true p xs = refl
 count-given false p xs = count-none (λ c. false) (λ c. refl) xs
 
 -- a half-filled child row is not stranded where x becomes y; nor is it mended, for what that mends is what y, becoming x, strands
-pub half-stays : (k : ForeignKey) → length (k .childColumns) ≡ length (k .parentColumns) → (x y : Row) (others : List Row) (c : Row) → halfKey (k .childColumns) c ≡ true → stranded k x y others c ≡ false
+pub half-stays : (k : ForeignKey) → length (k .childColumns) ≡ length (k .parentColumns) → (x y : Row) (others : List Row) (c : Row) → halfKey (childKey k) c ≡ true → stranded k x y others c ≡ false
 unfolding stranded
-half-stays k e x y others c h = ap (λ b. due k c && (b && (not (serves k c y) && not (any (serves k c) others)))) (half-unserved k e c h x) ∙ and-none (due k c)
+half-stays k e x y others c h = ap (λ b. due k c && (b && unserved k y others c)) (half-unserved k e c h x) ∙ and-none (due k c)
 
--- ---- one foreign key that is not broken, its columns as many on both sides
-module _ (k : ForeignKey) (whole : k .broken ≡ false) (same-count : length (k .childColumns) ≡ length (k .parentColumns)) (x : Row) where
-  -- a row that x serves is served by those that have x's key
-  served-twin : (c p : Row) → mapsTo k c x ≡ true → serves k c p ≡ sameParentKey k x p
-  unfolding serves mapsTo sameParentKey
-  served-twin c p h =
-      ap (λ b. live p && b)
-      (key-sym c p (k .folds) (k .childColumns) (k .parentColumns)
-      ∙ key-trans c x p (k .folds) (k .parentColumns) (k .childColumns) (k .parentColumns) same-count h)
+-- ---- one foreign key, its columns as many on both sides
+module _ (k : ForeignKey) (same-count : length (k .childColumns) ≡ length (k .parentColumns)) (x y : Row) (others : List Row) where
+  -- child rows that x's actions take and that then have no parent
+  abbrev left : Row → Bool
+  left c = takes k x c && unserved k y others c
 
-  -- a row that needs a parent and that x serves is one that x's actions take
-  due-served : (c : Row) → due k c && serves k c x ≡ live x && takes k x c
-  unfolding serves takes
-  due-served c = swap (due k c) (live c) (live x) (mapsTo k c x) (mapped-due k same-count c whole x)
+  -- of a key that is not broken they are those that are stranded, where x is live
+  stranded-left : k .broken ≡ false → (c : Row) → stranded k x y others c ≡ live x && left c
+  unfolding stranded serves takes
+  stranded-left whole c = swap (due k c) (live c) (live x) (mapsTo k c x) (unserved k y others c) (mapped-due k same-count c whole x)
 
-  untaken : (c : Row) → mapsTo k c x ≡ false → live x && takes k x c ≡ false
+  -- none, where x has NULL in its key
+  left-null : any (nullAt x) (parentKey k) ≡ true → (c : Row) → left c ≡ false
   unfolding takes
-  untaken c h = rw h (ap (λ b. live x && b) (and-none (live c)) ∙ and-none (live x))
-
-  -- where x has NULL in its key, its actions take no row
-  none-taken : any (nullAt x) (k .parentColumns) ≡ true → (cs : List Row) → count (takes k x) cs ≡ 0
-  unfolding takes mapsTo
-  none-taken h cs = count-none (takes k x) (λ c. by c (sameKey (k .folds) (k .childColumns) (k .parentColumns) c x) refl) cs
+  left-null h c = by (mapsTo k c x) refl
     where
-      by : (c : Row) (m : Bool) → sameKey (k .folds) (k .childColumns) (k .parentColumns) c x ≡ m → live c && m ≡ false
-      by c true e = absurd (false≢true (sym (full-right c x (k .folds) (k .childColumns) (k .parentColumns) same-count e) ∙ h))
-      by c false e = and-none (live c)
+      by : (m : Bool) → mapsTo k c x ≡ m → (live c && m) && unserved k y others c ≡ false
+      by true e = absurd (false≢true (sym (parent-full k same-count x c e) ∙ h))
+      by false e = ap (λ b. b && unserved k y others c) (and-none (live c))
 
-  module _ (y : Row) (others : List Row) where
-    -- no row but x has x's key when x has become y
-    abbrev gone : Bool
-    gone = not (sameParentKey k x y) && not (any (sameParentKey k x) others)
+  -- none, where y has x's key
+  left-same : not (sameParentKey k x y) ≡ false → (c : Row) → left c ≡ false
+  unfolding takes unserved
+  left-same h c = by (mapsTo k c x) refl
+    where
+      by : (m : Bool) → mapsTo k c x ≡ m → (live c && m) && (not (serves k c y) && not (any (serves k c) others)) ≡ false
+      by true e = ap (λ b. (live c && true) && (not b && not (any (serves k c) others))) (served-same k same-count x c e y (not-false (sameParentKey k x y) h)) ∙ and-none (live c && true)
+      by false e = ap (λ b. b && (not (serves k c y) && not (any (serves k c) others))) (and-none (live c))
 
-    stranded-taken : (c : Row) → stranded k x y others c ≡ gone && (live x && takes k x c)
-    unfolding stranded
-    stranded-taken c =
-        regroup (due k c) (serves k c x) (not (serves k c y)) (not (any (serves k c) others))
-        ∙ ap (λ b. (not (serves k c y) && not (any (serves k c) others)) && b) (due-served c)
-        ∙ by (mapsTo k c x) refl
-      where
-        by : (m : Bool) → mapsTo k c x ≡ m
-            → (not (serves k c y) && not (any (serves k c) others)) && (live x && takes k x c)
-            ≡ (not (sameParentKey k x y) && not (any (sameParentKey k x) others)) && (live x && takes k x c)
-        by true e = λ i. (not (served-twin c y e i) && not (any (λ p. served-twin c p e i) others)) && (live x && takes k x c)
-        by false e = rw (untaken c e) (and-none (not (serves k c y) && not (any (serves k c) others)) ∙ sym (and-none gone))
+  -- where no other row's window clashes with x's, no other row serves a row that x's actions take
+  left-clear : (w : Window) → k .windows ≡ w ∷ [] → any (clashes k x w) others ≡ false → (c : Row) → left c ≡ takes k x c && not (serves k c y)
+  unfolding takes unserved
+  left-clear w one h c =
+      turned (live c) (mapsTo k c x) (not (serves k c y) && not (any (serves k c) others)) (not (serves k c y))
+      (λ e. ap (λ b. not (serves k c y) && not b) (any-less (serves k c) (clashes k x w) (served-clashes k same-count w one x c e) others h) ∙ and-true (not (serves k c y)))
+    where
+      and-true : (b : Bool) → b && true ≡ b
+      and-true true = refl
+      and-true false = refl
 
-    count-stranded : (cs : List Row) → count (stranded k x y others) cs ≡ pick gone (pick (live x) (count (takes k x) cs))
-    count-stranded cs =
-        (λ i. count (λ c. stranded-taken c i) cs)
-        ∙ count-given gone (λ c. live x && takes k x c) cs
-        ∙ ap (pick gone) (count-given (live x) (takes k x) cs)
+  -- without a window: all of them, or none where another row has x's key
+  left-twin : k .windows ≡ [] → (c : Row) → left c ≡ (not (sameParentKey k x y) && not (any (sameParentKey k x) others)) && takes k x c
+  unfolding takes unserved
+  left-twin none c =
+      turned (live c) (mapsTo k c x) (not (serves k c y) && not (any (serves k c) others)) (not (sameParentKey k x y) && not (any (sameParentKey k x) others))
+      (λ e i. not (served-twin k same-count x c e none y i) && not (any (λ p. served-twin k same-count x c e none p i) others))
+      ∙ and-swap (live c && mapsTo k c x) (not (sameParentKey k x y) && not (any (sameParentKey k x) others))
+    where
+      and-swap : (a b : Bool) → a && b ≡ b && a
+      and-swap true true = refl
+      and-swap true false = refl
+      and-swap false true = refl
+      and-swap false false = refl
 
 pub pick-zero : (b : Bool) → pick b 0 ≡ 0
 unfolding pick
 pick-zero true = refl
 pick-zero false = refl
 
-picks : (p s o l m : Bool) (n : ℕ) → (m ≡ true → n ≡ 0) → pick p (pick (s && o) (pick l n)) ≡ pick ((p && ((l && not m) && s)) && o) n
+picks : (p l m s : Bool) (n : ℕ) → (m ≡ true → n ≡ 0) → (s ≡ false → n ≡ 0) → pick p (pick l n) ≡ pick (p && ((l && not m) && s)) n
 unfolding pick
-picks false s o l m n h = refl
-picks true s o false m n h = pick-zero (s && o)
-picks true true o true false n h = refl
-picks true false o true false n h = refl
-picks true s o true true n h = rw (h refl) (pick-zero (s && o))
+picks false l m s n h g = refl
+picks true false m s n h g = refl
+picks true true true s n h g = h refl
+picks true true false true n h g = refl
+picks true true false false n h g = g refl
 
 -- ---- in tables
 module _ (k : ForeignKey) (t r : ℕ) (x y : Row) (tabs : Tables) where
@@ -124,25 +127,64 @@ module _ (k : ForeignKey) (t r : ℕ) (x y : Row) (tabs : Tables) where
   unfolding strandedRows stranded
   stranded-broken u =
       ap (pick (eqb (k .parent) t))
-      (count-none (stranded k x y others-of) (λ c. ap (λ b. b && (serves k c x && (not (serves k c y) && not (any (serves k c) others-of)))) (broken-due k u c)) children-of)
+      (count-none (stranded k x y others-of) (λ c. ap (λ b. b && (serves k c x && unserved k y others-of c)) (broken-due k u c)) children-of)
       ∙ pick-zero (eqb (k .parent) t)
 
   module _ (same-count : length (k .childColumns) ≡ length (k .parentColumns)) where
-    abbrev taken-rows : ℕ
-    taken-rows = pick (fires y t x k && not (any (sameParentKey k x) others-of)) (count (takes k x) children-of)
+    abbrev left-rows : ℕ
+    left-rows = count (λ c. takes k x c && unserved k y others-of c) children-of
 
-    stranded-whole : k .broken ≡ false → strandedRows k t r x y tabs ≡ taken-rows
+    scan-whole : k .broken ≡ false → strandedRows k t r x y tabs ≡ pick (fires y t x k) left-rows
     unfolding strandedRows fires fullKey
-    stranded-whole u =
-        ap (pick (eqb (k .parent) t)) (count-stranded k u same-count x y others-of children-of)
-        ∙ picks (eqb (k .parent) t) (not (sameParentKey k x y)) (not (any (sameParentKey k x) others-of)) (live x) (any (nullAt x) (k .parentColumns)) (count (takes k x) children-of)
-        (λ h. none-taken k u same-count x h children-of)
-        ∙ ap (λ b. pick ((eqb (k .parent) t && (not b && ((live x && not (any (nullAt x) (k .parentColumns))) && not (sameParentKey k x y)))) && not (any (sameParentKey k x) others-of)) (count (takes k x) children-of)) (sym u)
+    scan-whole u =
+        ap (pick (eqb (k .parent) t))
+        ((λ i. count (λ c. stranded-left k same-count x y others-of u c i) children-of)
+        ∙ count-given (live x) (λ c. takes k x c && unserved k y others-of c) children-of)
+        ∙ picks (eqb (k .parent) t) (live x) (any (nullAt x) (parentKey k)) (not (sameParentKey k x y)) left-rows
+        (λ h. count-none (λ c. takes k x c && unserved k y others-of c) (left-null k same-count x y others-of h) children-of)
+        (λ h. count-none (λ c. takes k x c && unserved k y others-of c) (left-same k same-count x y others-of h) children-of)
+        ∙ ap (λ b. pick (eqb (k .parent) t && (not b && ((live x && not (any (nullAt x) (parentKey k))) && not (sameParentKey k x y)))) left-rows) (sym u)
 
-    pub stranded-rows : strandedRows k t r x y tabs ≡ pick (fires y t x k && not (any (sameParentKey k x) (except r (getD tabs (k .parent) [])))) (count (takes k x) (exceptIf (eqb (k .child) t) r (getD tabs (k .child) [])))
+    -- child row by child row: those that the old row's actions take and that no other parent row serves. Whatever the tables: windows may overlap, and two parent rows serve one child
+    pub stranded-scan :
+        strandedRows k t r x y tabs
+        ≡ pick (fires y t x k) (count (λ c. takes k x c && unserved k y (except r (getD tabs (k .parent) [])) c) (exceptIf (eqb (k .child) t) r (getD tabs (k .child) [])))
     unfolding pick
-    stranded-rows = go (k .broken) refl
+    stranded-scan = go (k .broken) refl
       where
-        go : (b : Bool) → k .broken ≡ b → strandedRows k t r x y tabs ≡ taken-rows
-        go false u = stranded-whole u
-        go true u = stranded-broken u ∙ sym (ap (λ b. pick (b && not (any (sameParentKey k x) others-of)) (count (takes k x) children-of)) (broken-still k u y t x))
+        go : (b : Bool) → k .broken ≡ b → strandedRows k t r x y tabs ≡ pick (fires y t x k) left-rows
+        go false u = scan-whole u
+        go true u = stranded-broken u ∙ sym (ap (λ b. pick b left-rows) (broken-still k u y t x))
+
+    -- where no other parent row's window clashes with the old row's, no other parent row is looked for
+    pub stranded-clear : (w : Window) → k .windows ≡ w ∷ [] → any (clashes k x w) (except r (getD tabs (k .parent) [])) ≡ false
+        → strandedRows k t r x y tabs
+        ≡ pick (fires y t x k) (count (λ c. takes k x c && not (serves k c y)) (exceptIf (eqb (k .child) t) r (getD tabs (k .child) [])))
+    stranded-clear w one h = stranded-scan ∙ ap (pick (fires y t x k)) (λ i. count (λ c. left-clear k same-count x y others-of w one h c i) children-of)
+
+    fires-changed : fires y t x k ≡ true → not (sameParentKey k x y) ≡ true
+    unfolding fires
+    fires-changed h =
+        let whole = and-right (eqb (k .parent) t) (not (k .broken) && (fullKey (parentKey k) x && not (sameParentKey k x y))) h in
+        let full = and-right (not (k .broken)) (fullKey (parentKey k) x && not (sameParentKey k x y)) whole in
+        and-right (fullKey (parentKey k) x) (not (sameParentKey k x y)) full
+
+    -- without a window another parent row with the old key is looked for once
+    pub stranded-rows : k .windows ≡ [] → strandedRows k t r x y tabs ≡ pick (fires y t x k && not (any (sameParentKey k x) (except r (getD tabs (k .parent) [])))) (count (takes k x) (exceptIf (eqb (k .child) t) r (getD tabs (k .child) [])))
+    unfolding pick
+    stranded-rows none =
+        stranded-scan
+        ∙ ap (pick (fires y t x k))
+        ((λ i. count (λ c. left-twin k same-count x y others-of none c i) children-of)
+        ∙ count-given (not (sameParentKey k x y) && not (any (sameParentKey k x) others-of)) (takes k x) children-of)
+        ∙ fired (fires y t x k) (not (sameParentKey k x y)) (not (any (sameParentKey k x) others-of)) (count (takes k x) children-of) fires-changed
+      where
+        fired : (f s o : Bool) (n : ℕ) → (f ≡ true → s ≡ true) → pick f (pick (s && o) n) ≡ pick (f && o) n
+        fired true s o n h = ap (λ b. pick true (pick (b && o) n)) (h refl)
+        fired false s o n h = refl
+
+    -- and a row that the actions take does not map to the new row: RESTRICT refuses at the first
+    pub restrict-first : k .windows ≡ [] → fires y t x k ≡ true → (c : Row) → takes k x c ≡ true → serves k c y ≡ false
+    unfolding takes
+    restrict-first none f c h =
+        served-twin k same-count x c (and-right (live c) (mapsTo k c x) h) none y ∙ fails (sameParentKey k x y) (fires-changed f)

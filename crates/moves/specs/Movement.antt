@@ -8,7 +8,7 @@ use lib.Dec.{eqb}
 use lib.IntN.{ℤ, pos, _-ℤ_}
 use lib.ListN.{getD, length, replicate}
 use Rattle.schema.specs.Records.{ForeignKey, Schema}
-use Rattle.rules.specs.Lists.{𝟘, any, count, one, padded, plus}
+use Rattle.rules.specs.Lists.{𝟘, any, count, except, one, padded, plus}
 use Rattle.rules.specs.Rows.{Row, Tables, rowAt, putRow}
 use Rattle.rules.specs.Keys.{due, serves, orphan, counts}
 
@@ -18,19 +18,17 @@ pick true n = n
 pick false n = 0
 
 module _ {A : Type 0} where
-  -- all but number r
-  unfoldable pub except : ℕ → List A → List A
-  except r [] = []
-  except zero (x ∷ xs) = xs
-  except (suc r) (x ∷ xs) = x ∷ except r xs
-
   unfoldable pub exceptIf : Bool → ℕ → List A → List A
   exceptIf true r xs = except r xs
   exceptIf false r xs = xs
 
+-- neither y nor one of the others serves child row c
+unfoldable pub unserved : ForeignKey → Row → List Row → Row → Bool
+unserved k y others c = not (serves k c y) && not (any (serves k c) others)
+
 -- child row c needs a parent, x serves it, y does not, and none of the others does
 unfoldable pub stranded : ForeignKey → Row → Row → List Row → Row → Bool
-stranded k x y others c = due k c && (serves k c x && (not (serves k c y) && not (any (serves k c) others)))
+stranded k x y others c = due k c && (serves k c x && unserved k y others c)
 
 -- the written row as a child: 1 where it is an orphan
 unfoldable pub ownOrphan : ForeignKey → ℕ → Row → Tables → ℕ

@@ -8,7 +8,7 @@ use lib.IntN.{pos}
 use lib.ListN.{replicate}
 use Rattle.schema.specs.Bytes.{bit}
 use Rattle.schema.specs.Ranges.{all}
-use Rattle.schema.specs.Records.{ForeignKey, Schema}
+use Rattle.schema.specs.Records.{ForeignKey, Schema, childKey, uniqueColumns, parentKey}
 use Rattle.schema.specs.declared.Action.the-variants.{Cascade}
 use Rattle.schema.specs.declared.Match.{Match}
 use Rattle.schema.specs.declared.Match.the-variants.{Simple, Full}
@@ -18,7 +18,7 @@ use Rattle.rules.specs.Lists.{any, upFrom}
 use Rattle.rules.specs.Refusals.{failing}
 use Rattle.rules.specs.Values.{natOf, sameWord, folded, sameValue}
 use Rattle.rules.specs.Rows.{Row, rowAt, liveState, live, nullAt, valueAt}
-use Rattle.rules.specs.Keys.{sameCell, sameKey, fullKey, halfKey, mapsTo, halfDue, due, serves, orphan, sameParentKey, fires, uses, usesBroken}
+use Rattle.rules.specs.Keys.{sameCell, sameKey, fullKey, halfKey, mapsTo, halfDue, due, serves, orphan, sameParent, sameParentKey, fires, uses, usesBroken}
 use Rattle.rules.specs.Book.{Work}
 use Rattle.rules.specs.Change.{notNullBroken, admits}
 use Rattle.rules.proofs.Inputs.{halfDrawn, notDrawn, insert, update, delete, begin, commit, deleteWhere, updateWhere}
@@ -29,7 +29,7 @@ use Rattle.rules.proofs.PaperCases.{Case, none, one, refused}
 
 -- a foreign key from table 1 to table 0, of a match, broken or not
 abbrev tie : Match → Bool → ForeignKey
-tie m b = record { child = 1; parent = 0; deferred = false; onDelete = Cascade; onUpdate = Cascade; childColumns = 0 ∷ 1 ∷ []; parentColumns = 0 ∷ 1 ∷ []; match = m; broken = b; folds = [] }
+tie m b = record { child = 1; parent = 0; deferred = false; onDelete = Cascade; onUpdate = Cascade; childColumns = 0 ∷ 1 ∷ []; parentColumns = 0 ∷ 1 ∷ []; match = m; broken = b; folds = []; windows = [] }
 
 abbrev vacant : Row
 vacant = pos 0 ∷ pos 0 ∷ pos 0 ∷ []
@@ -43,7 +43,7 @@ half = pos 257 ∷ pos 0 ∷ pos 8 ∷ []
 -- "A broken key has no orphans", under either match: a full row and a half-filled one that nobody serves
 pub orphans-of-broken : map (λ (k : ForeignKey). map (orphan k []) (full ∷ half ∷ [])) (tie Simple false ∷ tie Full false ∷ tie Simple true ∷ tie Full true ∷ [])
     ≡ (true ∷ false ∷ []) ∷ (true ∷ true ∷ []) ∷ (false ∷ false ∷ []) ∷ (false ∷ false ∷ []) ∷ []
-unfolding orphan due halfDue halfKey fullKey serves mapsTo sameKey sameCell live liveState nullAt valueAt natOf sameWord folded sameValue bit any all
+unfolding orphan due halfDue halfKey fullKey serves childKey mapsTo sameKey sameCell live liveState nullAt valueAt natOf sameWord folded sameValue bit any all
 orphans-of-broken = refl
 
 -- an insert, an update and a deletion, in the parent table, in the child table and in another: which use a broken key
@@ -54,7 +54,7 @@ uses-of-broken = refl
 
 -- a key that is not broken is used without harm; of a broken one no actions follow
 pub whole-and-broken : map (λ (b : Bool). usesBroken full 1 vacant (tie Simple b) ∷ fires vacant 0 full (tie Simple b) ∷ []) (false ∷ true ∷ []) ≡ (false ∷ true ∷ []) ∷ (true ∷ false ∷ []) ∷ []
-unfolding usesBroken uses fires fullKey sameParentKey sameKey sameCell live liveState nullAt valueAt natOf sameWord folded sameValue bit any
+unfolding usesBroken uses fires uniqueColumns parentKey fullKey sameParent sameParentKey sameKey sameCell live liveState nullAt valueAt natOf sameWord folded sameValue bit any
 whole-and-broken = refl
 
 -- ---- the order of the checks
@@ -64,7 +64,7 @@ abbrev alone : Bool → Schema
 alone b =
     record {
       tables = record { rows = 1; columns = 1; notNull = 1; uniques = replicate 4 0; defaultNull = 0; folded = 0; defaults = replicate 8 (pos 0) } ∷ [];
-      keys = record { child = 0; parent = 0; deferred = true; onDelete = Cascade; onUpdate = Cascade; childColumns = 0 ∷ []; parentColumns = 0 ∷ []; match = Simple; broken = b; folds = [] } ∷ [];
+      keys = record { child = 0; parent = 0; deferred = true; onDelete = Cascade; onUpdate = Cascade; childColumns = 0 ∷ []; parentColumns = 0 ∷ []; match = Simple; broken = b; folds = []; windows = [] } ∷ [];
       room = 1;
     }
 

@@ -6,18 +6,19 @@ use Prim.Native.Nat.{ℕ}
 use lib.IntN.{ℤ}
 use lib.ListN.{set}
 use Rattle.schema.specs.Bytes.{bit, foldsOf, columnMask}
-use Rattle.schema.specs.Check.{startsWith, headerRest, headerRules, maskRule, sizeRules, tableRest, tableRules, newColumn, columnsRule, codeRules, keyRest, keyRules, wellFormed, checkSchema}
-use Rattle.schema.specs.Fields.{tableFrom, actionFrom, matchFrom, columnRule, uniqueIs, hasParentKey, isBroken, keyFolds, keyFrom, schemaOf}
+use Rattle.schema.specs.Check.{startsWith, headerRest, headerRules, maskRule, sizeRules, tableRest, tableRules, newColumn, columnsRule, windowedRule, codeRules, keyRest, keyRules, wellFormed, checkSchema}
+use Rattle.schema.specs.Fields.{tableFrom, actionFrom, matchFrom, columnRule, uniqueIs, hasParentKey, hasEnd, isBroken, keyFolds, keyWindows, keyFrom, schemaOf}
 use Rattle.schema.specs.Ranges.{allFrom, anyFrom, andAll, every, listFrom, all}
+use Rattle.schema.specs.Records.{childKey, uniqueColumns, parentKey}
 use Rattle.schema.specs.Sizes.{tableSize, rowsSize, tableOffset, areaSize}
 use Rattle.rules.specs.Area.{levelWords, entryWords, words, levelOf, entryOf, tablesOf, levelPart, rowPart, recordPart, view, naturalHead, legible, ensure, areaStep, freshWords}
 use Rattle.rules.specs.Book.{undoOne, undoAll, undo, undoTo, emptied, cleared, push, close, backTo, back, ended, firstKept, abort, blank, fresh}
 use Rattle.rules.specs.Calls.{formedIf, parsed, parse, inTable, rowFits, inColumns, seeksNull, setsNull, valueFits, levelNumber, allowed}
-use Rattle.rules.specs.Change.{then, given, inTurn, notNullBroken, twice, maskBroken, uniqueBroken, admits, admitted, flag, setCell, fillsNull, filler, refilled, childImage, cascaded, actionOf, taken, rowTurn, children, keyTurn, actions, change}
+use Rattle.rules.specs.Change.{then, given, inTurn, notNullBroken, twice, maskBroken, uniqueBroken, clashes, windowBroken, badWindow, admits, admitted, flag, setCell, fillsNull, filler, refilled, childImage, cascaded, actionOf, taken, rowTurn, children, keyTurn, actions, change}
 use Rattle.rules.specs.Found.{cellIs, isFound, rowSet, foundTurn, rowsFound}
 use Rattle.rules.specs.Engine.{underSchema, makeFresh, callOn}
-use Rattle.rules.specs.Keys.{sameCell, sameKey, fullKey, halfKey, maskColumnsFrom, maskColumns, mapsTo, halfDue, due, serves, orphan, orphans, counts, takes, sameParentKey, fires, uses, usesBroken}
-use Rattle.rules.specs.Lists.{any, count, flat, chunks, one, upFrom, sum, less, plus}
+use Rattle.rules.specs.Keys.{sameCell, sameKey, fullKey, halfKey, maskColumnsFrom, maskColumns, firstDay, endDay, isWithin, sharesDay, inWindow, sameWindow, mapsTo, halfDue, due, serves, orphan, orphans, counts, takes, sameParent, sameParentKey, fires, uses, usesBroken}
+use Rattle.rules.specs.Lists.{any, count, except, flat, chunks, one, upFrom, sum, less, plus}
 use Rattle.rules.specs.OrphanList.{orphanTotal, recordIf, orphanRows, orphansFrom, orphanList, schemaVerdict, listVerdict, listed, listAnswer, lentAfter, listOrphans}
 use Rattle.rules.specs.Refusals.{number, shown, accepted, failing}
 use Rattle.rules.specs.Rows.{rowAt, putRow, overwrite, image, deletedImage, liveState, live, nullAt, valueAt, maskOf, held, liveImage, normal}
@@ -42,7 +43,7 @@ show (x ∷ xs) = shown (x .1) ∷ show xs
 
 -- calls on an area: each with its answer, and the last area
 unfoldable pub ranOn : List ℕ → List ℤ → List (List ℤ) → List Logged × List ℤ
-unfolding bit startsWith headerRest headerRules maskRule sizeRules tableRest tableRules columnRule newColumn columnsRule codeRules keyRest keyRules wellFormed checkSchema tableFrom actionFrom matchFrom uniqueIs hasParentKey isBroken keyFolds columnMask foldsOf keyFrom schemaOf allFrom anyFrom andAll every listFrom all tableSize rowsSize tableOffset areaSize levelWords entryWords words levelOf entryOf tablesOf levelPart rowPart recordPart view naturalHead legible ensure areaStep freshWords undoOne undoAll undo undoTo emptied cleared push close backTo back ended firstKept abort blank fresh formedIf parsed parse inTable rowFits inColumns seeksNull setsNull valueFits levelNumber allowed cellIs isFound rowSet inTurn foundTurn rowsFound then given notNullBroken twice maskBroken uniqueBroken admits admitted flag setCell fillsNull filler refilled childImage cascaded actionOf taken rowTurn children keyTurn actions change underSchema makeFresh callOn sameCell sameKey fullKey halfKey maskColumnsFrom maskColumns mapsTo halfDue due serves orphan orphans counts takes sameParentKey fires uses usesBroken any count flat chunks one upFrom sum less plus number shown accepted failing rowAt putRow overwrite image deletedImage liveState live nullAt valueAt maskOf held liveImage normal inTransaction openerFits keptInRange savedInRange usesRise placed undamaged levelOpen check demand immediateZero enforced journalAfter afterStatement settle conclude statement rowStatement opened openerOf committed released rolled act step runAll place mark marks strike callsOf raised eachByte folded sameValue sameWord sameWords allZero natOf natural inRange
+unfolding bit startsWith headerRest headerRules maskRule sizeRules tableRest tableRules columnRule newColumn columnsRule windowedRule codeRules keyRest keyRules wellFormed checkSchema tableFrom actionFrom matchFrom uniqueIs hasParentKey hasEnd isBroken keyFolds keyWindows columnMask foldsOf keyFrom schemaOf allFrom anyFrom andAll every listFrom all tableSize rowsSize tableOffset areaSize levelWords entryWords words levelOf entryOf tablesOf levelPart rowPart recordPart view naturalHead legible ensure areaStep freshWords undoOne undoAll undo undoTo emptied cleared push close backTo back ended firstKept abort blank fresh formedIf parsed parse inTable rowFits inColumns seeksNull setsNull valueFits levelNumber allowed cellIs isFound rowSet inTurn foundTurn rowsFound then given notNullBroken twice maskBroken uniqueBroken clashes windowBroken badWindow admits admitted flag setCell fillsNull filler refilled childImage cascaded actionOf taken rowTurn children keyTurn actions change underSchema makeFresh callOn sameCell sameKey fullKey halfKey maskColumnsFrom maskColumns childKey uniqueColumns parentKey firstDay endDay isWithin sharesDay inWindow sameWindow mapsTo halfDue due serves orphan orphans counts takes sameParent sameParentKey fires uses usesBroken any count except flat chunks one upFrom sum less plus number shown accepted failing rowAt putRow overwrite image deletedImage liveState live nullAt valueAt maskOf held liveImage normal inTransaction openerFits keptInRange savedInRange usesRise placed undamaged levelOpen check demand immediateZero enforced journalAfter afterStatement settle conclude statement rowStatement opened openerOf committed released rolled act step runAll place mark marks strike callsOf raised eachByte folded sameValue sameWord sameWords allZero natOf natural inRange
 ranOn bs ws cs = runOn bs cs ws
 
 -- calls on a fresh area
@@ -60,6 +61,11 @@ unfoldable pub answersWith : List ℕ → ℕ → ℤ → List (List ℤ) → Sh
 unfolding ranOn show freshWords areaSize rowsSize tableSize schemaOf tableFrom keyFrom actionFrom matchFrom listFrom
 answersWith bs n v cs = show (ranOn bs (set (freshWords (schemaOf bs)) n v) cs .0)
 
+-- the answers of calls on the area that others led to, with word n set to v
+unfoldable pub answersAfter : List ℕ → List (List ℤ) → ℕ → ℤ → List (List ℤ) → Shown
+unfolding ranOn ran show
+answersAfter bs cs n v ds = show (ranOn bs (set (ran bs cs .1) n v) ds .0)
+
 -- two lists of calls end in areas equal in every word
 unfoldable pub sameArea : List ℕ → List (List ℤ) → List (List ℤ) → Bool
 unfolding ran sameWords sameWord
@@ -72,5 +78,5 @@ callsLeft bs cs = callsOf (strike (ran bs cs .0) .line)
 
 -- the orphan list on the last area, for a lent list
 unfoldable pub listedAfter : List ℕ → List (List ℤ) → List Orphan → Listed × List Orphan
-unfolding ran listOrphans lentAfter orphanList orphansFrom orphanRows recordIf listAnswer listed listVerdict schemaVerdict orphanTotal bit startsWith headerRest headerRules maskRule sizeRules tableRest tableRules columnRule newColumn columnsRule codeRules keyRest keyRules wellFormed checkSchema tableFrom actionFrom matchFrom uniqueIs hasParentKey isBroken keyFolds columnMask foldsOf keyFrom schemaOf allFrom anyFrom andAll every listFrom all tableSize rowsSize tableOffset areaSize levelOf entryOf tablesOf levelPart rowPart recordPart view naturalHead legible inTable sameCell sameKey fullKey halfKey mapsTo halfDue due serves orphan orphans any count flat chunks one number failing rowAt liveState live nullAt valueAt inTransaction openerFits keptInRange savedInRange usesRise placed undamaged raised eachByte folded sameValue sameWord natOf natural inRange
+unfolding ran listOrphans lentAfter orphanList orphansFrom orphanRows recordIf listAnswer listed listVerdict schemaVerdict orphanTotal bit startsWith headerRest headerRules maskRule sizeRules tableRest tableRules columnRule newColumn columnsRule windowedRule codeRules keyRest keyRules wellFormed checkSchema tableFrom actionFrom matchFrom uniqueIs hasParentKey hasEnd isBroken keyFolds keyWindows columnMask foldsOf keyFrom schemaOf allFrom anyFrom andAll every listFrom all tableSize rowsSize tableOffset areaSize levelOf entryOf tablesOf levelPart rowPart recordPart view naturalHead legible inTable sameCell sameKey fullKey halfKey childKey uniqueColumns parentKey firstDay endDay isWithin sharesDay inWindow sameWindow mapsTo halfDue due serves orphan orphans any count except flat chunks one number failing rowAt liveState live nullAt valueAt inTransaction openerFits keptInRange savedInRange usesRise placed undamaged raised eachByte folded sameValue sameWord natOf natural inRange
 listedAfter bs cs before = listOrphans bs (ran bs cs .1) before

@@ -6,13 +6,14 @@ use mathlib.Core.List.{List, [], _∷_, map}
 use lib.IntN.{ℤ, pos, negsuc}
 use lib.ListN.{replicate}
 use Rattle.schema.specs.Bytes.{bit}
-use Rattle.schema.specs.Records.{ForeignKey}
+use Rattle.schema.specs.Ranges.{all}
+use Rattle.schema.specs.Records.{ForeignKey, uniqueColumns, parentKey}
 use Rattle.schema.specs.declared.Action.the-variants.{Cascade}
 use Rattle.schema.specs.declared.Match.the-variants.{Simple}
 use Rattle.rules.specs.Lists.{any}
 use Rattle.rules.specs.Values.{natOf, sameWord, raised, eachByte, folded, sameValue}
 use Rattle.rules.specs.Rows.{Row, liveState, live, nullAt, valueAt}
-use Rattle.rules.specs.Keys.{sameCell, sameKey, fullKey, mapsTo, takes, sameParentKey, fires}
+use Rattle.rules.specs.Keys.{sameCell, sameKey, fullKey, mapsTo, takes, sameParent, sameParentKey, fires}
 use Rattle.rules.proofs.Inputs.{named, namedLegs, namedTwice, insert, update, delete, begin, commit, deleteWhere, updateWhere}
 use Rattle.rules.proofs.Computed.{answers}
 use Rattle.rules.proofs.PaperCases.{Case, none, one, refused}
@@ -55,7 +56,7 @@ no-letters = refl
 
 -- a foreign key of two pairs, folded or not
 abbrev tie : List Bool → ForeignKey
-tie fs = record { child = 1; parent = 0; deferred = false; onDelete = Cascade; onUpdate = Cascade; childColumns = 0 ∷ 1 ∷ []; parentColumns = 0 ∷ 1 ∷ []; match = Simple; broken = false; folds = fs }
+tie fs = record { child = 1; parent = 0; deferred = false; onDelete = Cascade; onUpdate = Cascade; childColumns = 0 ∷ 1 ∷ []; parentColumns = 0 ∷ 1 ∷ []; match = Simple; broken = false; folds = fs; windows = [] }
 
 abbrev parent : Row
 parent = pos 256 ∷ Lf2 ∷ Lf2 ∷ []
@@ -67,13 +68,13 @@ rows = parent ∷ (pos 256 ∷ lF2 ∷ Lf2 ∷ []) ∷ (pos 256 ∷ Lf2 ∷ lF2 
 -- each pair has its own mark
 pub pairs-apart : map (λ (fs : List Bool). map (takes (tie fs) parent) rows) ([] ∷ (true ∷ []) ∷ (false ∷ true ∷ []) ∷ (true ∷ true ∷ []) ∷ [])
     ≡ (true ∷ false ∷ false ∷ false ∷ []) ∷ (true ∷ true ∷ false ∷ false ∷ []) ∷ (true ∷ false ∷ true ∷ false ∷ []) ∷ (true ∷ true ∷ true ∷ false ∷ []) ∷ []
-unfolding takes mapsTo sameKey sameCell sameValue folded eachByte raised sameWord live liveState nullAt valueAt natOf bit
+unfolding takes mapsTo sameKey sameCell sameValue folded eachByte raised sameWord live liveState nullAt valueAt natOf bit all
 pairs-apart = refl
 
 -- "respelling a parent runs no on-update action": to itself, respelled in the first column, in the second, and to NULL
 pub respelling : map (λ (fs : List Bool). map (λ (new : Row). fires new 0 parent (tie fs)) rows) ([] ∷ (true ∷ false ∷ []) ∷ (true ∷ true ∷ []) ∷ [])
     ≡ (false ∷ true ∷ true ∷ true ∷ []) ∷ (false ∷ false ∷ true ∷ true ∷ []) ∷ (false ∷ false ∷ false ∷ true ∷ []) ∷ []
-unfolding fires fullKey sameParentKey sameKey sameCell sameValue folded eachByte raised sameWord live liveState nullAt valueAt natOf bit any
+unfolding fires uniqueColumns parentKey fullKey sameParent sameParentKey sameKey sameCell sameValue folded eachByte raised sameWord live liveState nullAt valueAt natOf bit any all
 respelling = refl
 
 -- ---- calls

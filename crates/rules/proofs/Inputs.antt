@@ -108,6 +108,20 @@ unfoldable pub namedTwice : List ℕ
 unfolding schemaBytes foldedTable tableBytes keyBytes
 namedTwice = schemaBytes 3 2 8 (foldedTable 2 1 1 1 1 ++ tableBytes 2 1 1 1 ++ tableBytes 2 1 0 0 ++ keyBytes 2 0 0 0 1 4 4 ++ keyBytes 2 0 1 0 1 4 4)
 
+-- calibrations of sensors: sensor, first day, end; unique by the first two, and these columns folded. Readings of a sensor on a day, tied by a windowed key: deferred, one action, match
+unfoldable pub calibrations : ℕ → ℕ → ℕ → ℕ → List ℕ
+unfolding schemaBytes foldedTable tableBytes
+calibrations folds deferred action match =
+    schemaBytes 2 1 8
+    (foldedTable 4 3 0 3 folds
+    ++ tableBytes 4 2 0 0
+    ++ (1 ∷ 0 ∷ deferred ∷ action ∷ action ∷ 2 ∷ 0 ∷ 1 ∷ 255 ∷ 255 ∷ 0 ∷ 1 ∷ 255 ∷ 255 ∷ match ∷ 1 ∷ []))
+
+-- the same with the calibrations' end missing: the key is broken
+unfoldable pub endless : List ℕ
+unfolding schemaBytes tableBytes
+endless = schemaBytes 2 1 8 (tableBytes 2 2 0 3 ++ tableBytes 2 2 0 0 ++ (1 ∷ 0 ∷ 0 ∷ 1 ∷ 1 ∷ 2 ∷ 0 ∷ 1 ∷ 255 ∷ 255 ∷ 0 ∷ 1 ∷ 255 ∷ 255 ∷ 0 ∷ 1 ∷ []))
+
 -- ---- calls, as twelve words
 
 unfoldable call : ℕ → ℕ → ℕ → ℕ → List ℤ → List ℤ

@@ -8,3 +8,4 @@ pub mod OldKey
 pub mod MatchFull
 pub mod BrokenKeys
 pub mod FoldedColumns
+pub mod Windows

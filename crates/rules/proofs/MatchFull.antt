@@ -8,7 +8,7 @@ use lib.IntN.{ℤ, pos, negsuc}
 use lib.ListN.{replicate}
 use Rattle.schema.specs.Bytes.{bit}
 use Rattle.schema.specs.Ranges.{all}
-use Rattle.schema.specs.Records.{ForeignKey}
+use Rattle.schema.specs.Records.{ForeignKey, childKey}
 use Rattle.schema.specs.declared.Action.the-variants.{Cascade}
 use Rattle.schema.specs.declared.Match.{Match}
 use Rattle.schema.specs.declared.Match.the-variants.{Simple, Full}
@@ -30,7 +30,7 @@ mended = (0, 1, negsuc 0)
 
 -- a foreign key of two columns for two, of a match
 abbrev pair : Match → ForeignKey
-pair m = record { child = 1; parent = 0; deferred = false; onDelete = Cascade; onUpdate = Cascade; childColumns = 0 ∷ 1 ∷ []; parentColumns = 0 ∷ 1 ∷ []; match = m; broken = false; folds = [] }
+pair m = record { child = 1; parent = 0; deferred = false; onDelete = Cascade; onUpdate = Cascade; childColumns = 0 ∷ 1 ∷ []; parentColumns = 0 ∷ 1 ∷ []; match = m; broken = false; folds = []; windows = [] }
 
 abbrev full : Row
 full = pos 256 ∷ pos 7 ∷ pos 8 ∷ []
@@ -42,7 +42,7 @@ rows = full ∷ (pos 258 ∷ pos 7 ∷ pos 8 ∷ []) ∷ (pos 257 ∷ pos 7 ∷ 
 -- which of them need a parent, under either match; which a parent row serves, and which its actions take
 pub by-match : map (λ (test : Row → Bool). map test rows) (due (pair Simple) ∷ due (pair Full) ∷ (λ c. serves (pair Full) c full) ∷ takes (pair Full) full ∷ [])
     ≡ (true ∷ replicate 4 false) ∷ (true ∷ true ∷ true ∷ false ∷ false ∷ []) ∷ (true ∷ replicate 4 false) ∷ (true ∷ replicate 4 false) ∷ []
-unfolding due halfDue halfKey fullKey serves takes mapsTo sameKey sameCell live liveState nullAt valueAt natOf sameWord folded sameValue bit any all
+unfolding due halfDue halfKey fullKey serves takes childKey mapsTo sameKey sameCell live liveState nullAt valueAt natOf sameWord folded sameValue bit any all
 by-match = refl
 
 -- "some but not all key columns NULL", of columns 0 and 2, by the states of rows: full, column 0, 1, 2, columns 0 and 2; vacant ones

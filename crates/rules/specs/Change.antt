@@ -1,23 +1,24 @@
 -- A row change: "depth; journal room; NOT NULL; unique ..; the old words go to the journal and the row is written; then actions".
 -- Assumes nothing.
-use mathlib.Core.Bool.{Bool, true, false, not, _&&_}
+use mathlib.Core.Bool.{Bool, true, false, not, _&&_, _||_}
 use mathlib.Core.List.{List, [], _∷_}
 use Prim.Native.Nat.{ℕ, zero, suc, _+_, _-_, _^_}
 use lib.Dec.{eqb}
 use lib.IntN.{ℤ, pos}
 use lib.ListN.{length, getD, set}
+use lib.Signed.{leZ}
 use Rattle.schema.specs.Bytes.{bit, foldsOf}
 use Rattle.schema.specs.declared.Action.{Action}
 use Rattle.schema.specs.declared.Action.the-variants.{NoAction, Restrict, SetNull, SetDefault, Cascade}
-use Rattle.schema.specs.Records.{Table, ForeignKey, Schema, tableOf}
+use Rattle.schema.specs.Records.{Table, Window, ForeignKey, Schema, tableOf, parentKey}
 use Rattle.rules.specs.declared.Refusal.{Refusal}
-use Rattle.rules.specs.declared.Refusal.the-variants.{TooDeep, JournalFull, BrokenKey, NotNull, NotUnique, Restricted}
-use Rattle.rules.specs.Lists.{𝟘, any, upFrom}
+use Rattle.rules.specs.declared.Refusal.the-variants.{TooDeep, JournalFull, BrokenKey, NotNull, NotUnique, BadWindow, Restricted}
+use Rattle.rules.specs.Lists.{𝟘, any, except, upFrom}
 use Rattle.rules.specs.Refusals.{failing}
 use Rattle.rules.specs.declared.Verdict.{Verdict}
 use Rattle.rules.specs.declared.Verdict.the-variants.{Pass, Fail}
 use Rattle.rules.specs.Rows.{Row, rowAt, image, deletedImage, live, nullAt, valueAt, maskOf, normal}
-use Rattle.rules.specs.Keys.{sameKey, fullKey, maskColumns, takes, fires, usesBroken}
+use Rattle.rules.specs.Keys.{sameKey, fullKey, maskColumns, firstDay, endDay, sharesDay, serves, takes, sameParent, fires, usesBroken}
 use Rattle.rules.specs.Book.{Work, write}
 
 -- a statement goes on, or is refused; with what it has written so far
@@ -48,25 +49,38 @@ Change = ℕ → ℕ → Row → Work → Result
 unfoldable pub notNullBroken : Table → Row → Bool
 notNullBroken t new = any (λ c. bit c (t .notNull) && nullAt new c) (upFrom 0 (t .columns))
 
--- a row other than r, counted from i on, is live and has the new row's key
-unfoldable pub twice : List Bool → List ℕ → ℕ → Row → ℕ → List Row → Bool
-twice fs cs r new i [] = false
-twice fs cs r new i (x ∷ xs) = elim (not (eqb i r) && (live x && sameKey fs cs cs x new)) [ true ↦ true | false ↦ twice fs cs r new (suc i) xs ]
+-- a row other than r is live and has the new row's key
+unfoldable pub twice : List Bool → List ℕ → ℕ → Row → List Row → Bool
+twice fs cs r new rows = any (λ x. live x && sameKey fs cs cs x new) (except r rows)
 
 -- the unique key of a mask is broken, in a table with these folded columns: not "no other live row equal, a key with NULL equals none". "Unique keys .. use their own column's marking"
 unfoldable pub maskBroken : ℕ → ℕ → Row → List Row → ℕ → Bool
-maskBroken folded r new rows m = not (eqb m 0) && (fullKey (maskColumns m) new && twice (foldsOf folded (maskColumns m)) (maskColumns m) r new 0 rows)
+maskBroken folded r new rows m = not (eqb m 0) && (fullKey (maskColumns m) new && twice (foldsOf folded (maskColumns m)) (maskColumns m) r new rows)
 
 unfoldable pub uniqueBroken : Table → ℕ → Row → List Row → Bool
 uniqueBroken t r new rows = any (maskBroken (t .folded) r new rows) (t .uniques)
 
--- 15, 23, 16, 17, in this order: 23 "comes between 15 and 16"; "a deletion passes both" 16 and 17
+-- another live row has no NULL in its parent key, is "equal in the other key columns", and its window "shares a day" with the new row's
+unfoldable pub clashes : ForeignKey → Row → Window → Row → Bool
+clashes k new w x = fullKey (parentKey k) x && (sameParent k new x && sharesDay (firstDay w x) (endDay w x) (firstDay w new) (endDay w new))
+
+-- the new row "has end ≤ first day, or its window shares a day with that of another live row"
+unfoldable pub windowBroken : ForeignKey → ℕ → Row → List Row → Window → Bool
+windowBroken k r new rows w = leZ (endDay w new) (firstDay w new) || any (clashes k new w) (except r rows)
+
+-- 24: "a written parent row of an unbroken windowed key"; "rows with NULL in any of these columns .. are passed over"
+unfoldable pub badWindow : ℕ → ℕ → Row → List Row → ForeignKey → Bool
+badWindow t r new rows k =
+    (eqb (k .parent) t && not (k .broken)) && (fullKey (parentKey k) new && any (windowBroken k r new rows) (k .windows))
+
+-- 15, 23, 16, 17, 24, in this order: 23 "comes between 15 and 16", 24 "comes right after 17"; "a deletion passes" 16, 17 and 24
 unfoldable pub admits : Schema → ℕ → ℕ → Row → Work → Verdict
 admits s t r new w =
     failing (eqb (length (w .spare)) 0) JournalFull
     (failing (any (usesBroken new t (rowAt t r (w .tabs))) (s .keys)) BrokenKey
     (failing (live new && notNullBroken (tableOf s t) new) NotNull
-    (failing (live new && uniqueBroken (tableOf s t) r new (getD (w .tabs) t [])) NotUnique Pass)))
+    (failing (live new && uniqueBroken (tableOf s t) r new (getD (w .tabs) t [])) NotUnique
+    (failing (live new && any (badWindow t r new (getD (w .tabs) t [])) (s .keys)) BadWindow Pass))))
 
 unfoldable pub admitted : Verdict → (Work → Result) → Work → Result
 admitted Pass k w = k w
@@ -121,9 +135,10 @@ actionOf new k = elim (live new) [ true ↦ k .onUpdate | false ↦ k .onDelete 
 -- `change` is a row change one level deeper; `new` the parent's new image
 module _ (change : Change) (s : Schema) (new : Row) where
   -- "NO ACTION takes none. RESTRICT refuses at the first. SET NULL and SET DEFAULT update the child key."
+  -- "RESTRICT refuses an update only where a child so taken doesn't map to the row this change wrote": without a window none does
   unfoldable pub taken : Action → ForeignKey → ℕ → Row → Work → Result
   taken NoAction k i x w = go w
-  taken Restrict k i x w = stop Restricted w
+  taken Restrict k i x w = given (not (serves k x new)) (stop Restricted) w
   taken SetNull k i x w = change (k .child) i (childImage SetNull s k new x) w
   taken SetDefault k i x w = change (k .child) i (childImage SetDefault s k new x) w
   taken Cascade k i x w = change (k .child) i (cascaded s k new x) w

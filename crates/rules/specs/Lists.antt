@@ -20,6 +20,12 @@ module _ {A : Type 0} where
   count p [] = 0
   count p (x ∷ xs) = elim (p x) [ true ↦ suc (count p xs) | false ↦ count p xs ]
 
+  -- all but number r
+  unfoldable pub except : ℕ → List A → List A
+  except r [] = []
+  except zero (x ∷ xs) = xs
+  except (suc r) (x ∷ xs) = x ∷ except r xs
+
   -- lists one after the other
   unfoldable pub flat : List (List A) → List A
   flat [] = []

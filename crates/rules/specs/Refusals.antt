@@ -5,7 +5,7 @@ use Prim.Native.Nat.{ℕ}
 use lib.IntN.{ℤ}
 use Rattle.rules.specs.Lists.{𝟘}
 use Rattle.rules.specs.declared.Refusal.{Refusal}
-use Rattle.rules.specs.declared.Refusal.the-variants.{SchemaMalformed, WrongLength, BadCall, Damaged, RowState, LevelState, LevelsFull, TooDeep, JournalFull, NotNull, NotUnique, Restricted, KeptOutOfRange, OrphansLeft, CommitWithOrphans, ListTooShort, BrokenKey}
+use Rattle.rules.specs.declared.Refusal.the-variants.{SchemaMalformed, WrongLength, BadCall, Damaged, RowState, LevelState, LevelsFull, TooDeep, JournalFull, NotNull, NotUnique, Restricted, KeptOutOfRange, OrphansLeft, CommitWithOrphans, ListTooShort, BrokenKey, BadWindow}
 use Rattle.rules.specs.declared.Verdict.{Verdict}
 use Rattle.rules.specs.declared.Verdict.the-variants.{Fail}
 use Rattle.rules.specs.declared.Answer.{Answer}
@@ -30,6 +30,7 @@ number OrphansLeft = 20
 number CommitWithOrphans = 21
 number ListTooShort = 22
 number BrokenKey = 23
+number BadWindow = 24
 
 -- code, rows changed, net. "Refused: code, 0, 0."
 unfoldable pub shown : Answer → ℕ × ℕ × ℤ

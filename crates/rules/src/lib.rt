@@ -36,6 +36,8 @@ pub enum Refusal {
     ListTooShort,
     // 23: a row change uses a broken key.
     BrokenKey,
+    // 24: a written window is empty, or shares a day with another.
+    BadWindow,
 }
 
 // Whether checks pass, or which one refuses.

@@ -3,7 +3,8 @@ use mathlib.Core.Path.{_≡_, sym}
 use mathlib.Core.Bool.{Bool, true, false, _&&_}
 use mathlib.Core.List.{List}
 use Prim.Native.Nat.{ℕ, _<_, _≤_}
-use borrow.Author.Tests.{le-leb, lt-leb, le-ltb}
+use borrow.Author.Tests.{le-leb, lt-leb, le-ltb, eq-eqb, ne-eqb}
+use lib.Dec.{leb, ltb}
 use lib.ListN.{length}
 use Rattle.schema.specs.declared.SchemaAnswer.the-variants.{Accepted, Malformed}
 use Rattle.schema.specs.Ranges.{allFrom}
@@ -30,6 +31,15 @@ module _ (bs : List ℕ) where
   pub table-rest : (t : ℕ) → Check.sizeRules bs t ≡ true → Check.tableRules bs t ≡ Check.tableRest bs t
   unfolding Check.tableRules
   table-rest t e = rw e
+
+  -- without a window nothing is asked of a key
+  pub window-none : (k : ℕ) → Fields.windowedOf bs k ≡ 0 → true ≡ Check.windowedRule bs k
+  unfolding Check.windowedRule
+  window-none k e = rw (eq-eqb (Fields.windowedOf bs k) 0 e)
+
+  pub window-some : (k : ℕ) → (Fields.windowedOf bs k ≡ 0 → ⊥) → leb 2 (Fields.widthOf bs k) && (ltb (Fields.onDeleteOf bs k) 2 && ltb (Fields.onUpdateOf bs k) 2) ≡ Check.windowedRule bs k
+  unfolding Check.windowedRule
+  window-some k n = rw (ne-eqb (Fields.windowedOf bs k) 0 n)
 
   pub key-no : (k : ℕ) → Check.codeRules bs k ≡ false → false ≡ Check.keyRules bs k
   unfolding Check.keyRules

@@ -1,33 +1,33 @@
 -- A field that was read at its place is the field of the schema, and within its bounds. Assumes nothing.
 use mathlib.Core.Path.{_≡_, refl, sym, ap, _∙_}
-use mathlib.Core.Bool.{Bool, true, false, not}
-use mathlib.Core.List.{List, [], _∷_}
-use Prim.Native.Nat.{ℕ, zero, suc, _+_, _<_, _≤_}
+use mathlib.Core.Bool.{Bool, true, false, not, cond, _&&_}
+use mathlib.Core.List.{List, [], _∷_, _++_, map, append-nil}
+use Prim.Native.Nat.{ℕ, zero, suc, _+_, _-_, _<_, _≤_}
 use native.Mathlib.Nat.{zero-add}
 use native.Mathlib.Omega.{arith}
-use borrow.Author.Tests.{ltb-true, eqb-true, eq-eqb}
+use borrow.Author.Tests.{ltb-true, eqb-true, eqb-false, eq-eqb}
 use lib.Count.{ones}
-use lib.Dec.{eqb}
+use lib.Dec.{ltb, eqb}
 use lib.IntN.{ℤ, pos}
 use lib.ListN.{length, getD, take, drop}
 use lib.Seq.{getD-take}
 use Rattle.schema.specs.declared.Action.{Action}
 use Rattle.schema.specs.declared.Match.{Match}
 use Rattle.schema.specs.declared.SchemaAnswer.the-variants.{Accepted}
-use Rattle.schema.specs.Ranges.{anyFrom, listFrom}
+use Rattle.schema.specs.Ranges.{allFrom, anyFrom, listFrom}
 use Rattle.schema.specs.Bounds.{Within, Columns}
-use Rattle.schema.specs.Records.{Table, ForeignKey, tableOf, keyOf}
+use Rattle.schema.specs.Records.{Table, Window, ForeignKey, childKey, uniqueColumns, tableOf, keyOf}
 use Rattle.schema.specs.Bytes
 use Rattle.schema.specs.Bytes.{columnMask}
 use Rattle.schema.specs.Fields
 use Rattle.schema.specs.Fields.{tableFrom, keyFrom, schemaOf}
 use Rattle.schema.specs.Check
-use Rattle.schema.proofs.RangeLaws.{all-at, any-same}
+use Rattle.schema.proofs.RangeLaws.{and-left, all-at, any-same}
 use Rattle.schema.proofs.Formed.{formed, Sizes, Codes}
 use Rattle.schema.proofs.CheckLaws.{parent-no}
 use Rattle.schema.proofs.ListLaws.{length-from, get-list}
 use Rattle.schema.proofs.SchemaLaws.{tables-are, keys-are, room-is, table-is, key-is, accepted-formed}
-use Rattle.schema.proofs.KeyLaws.{unique-byte, parent-distinct, parent-rest, parent-key, parent-below}
+use Rattle.schema.proofs.KeyLaws.{any-some, unique-byte, parent-distinct, parent-rest, child-key-is, unique-columns-are, parent-key, parent-below, has-end}
 use Rattle.schema.proofs.MaskLaws.{mask-ones}
 
 pub byte-assoc : (bs : List ℕ) (a b i : ℕ) → Bytes.byte bs (a + (b + i)) ≡ Bytes.byte bs (a + b + i)
@@ -127,9 +127,14 @@ module _ (bs : List ℕ) (acc : Check.checkSchema bs ≡ Accepted) where
     codes-here : Codes bs k
     codes-here = formed bs w .key k (omega (arith, keys-are bs)) .codes
 
-    width-is : length (keyOf (schemaOf bs) k .childColumns) ≡ Fields.widthOf bs k
-    unfolding keyFrom
-    width-is = ap (λ (x : ForeignKey). length (x .childColumns)) (key-is bs k h) ∙ length-from (Fields.childColumnOf bs k) (Fields.widthOf bs k) 0
+    child-key : childKey (keyOf (schemaOf bs) k) ≡ listFrom (Fields.childColumnOf bs k) (Fields.widthOf bs k) 0
+    child-key = ap childKey (key-is bs k h) ∙ child-key-is bs k codes-here
+
+    unique-columns : uniqueColumns (keyOf (schemaOf bs) k) ≡ listFrom (Fields.parentColumnOf bs k) (Fields.widthOf bs k) 0
+    unique-columns = ap uniqueColumns (key-is bs k h) ∙ unique-columns-are bs k codes-here
+
+    width-is : length (childKey (keyOf (schemaOf bs) k)) ≡ Fields.widthOf bs k
+    width-is = ap length child-key ∙ length-from (Fields.childColumnOf bs k) (Fields.widthOf bs k) 0
 
     pub read-child : {r : ℕ} → r ≡ Fields.childOf bs k → (r ≡ keyOf (schemaOf bs) k .child) × (r < length (schemaOf bs .tables))
     unfolding keyFrom
@@ -146,23 +151,32 @@ module _ (bs : List ℕ) (acc : Check.checkSchema bs ≡ Accepted) where
     -- where the parent table is not there
     pub broken-table : Fields.tableCount bs ≤ Fields.parentOf bs k → true ≡ keyOf (schemaOf bs) k .broken
     unfolding Fields.isBroken
-    broken-table l = read-broken (ap not (parent-no bs k l))
+    broken-table l = read-broken (ap (λ (a : Bool). not (a && Fields.hasEnd bs k)) (parent-no bs k l))
 
-    -- else by a number that no mask tells from that of the parent columns
-    pub broken-mask : (m : ℕ) → Fields.parentOf bs k < Fields.tableCount bs → ((u : ℕ) → u < 256 → eqb u m ≡ eqb u (columnMask (Fields.parentColumnOf bs k) (Fields.widthOf bs k))) → not (anyFrom (λ i. eqb (Fields.uniqueOf bs (Fields.parentOf bs k) i) m) 4 0) ≡ keyOf (schemaOf bs) k .broken
+    -- else by a number that no mask tells from that of the parent columns, and by the end of its window
+    pub broken-mask : (m : ℕ) → Fields.parentOf bs k < Fields.tableCount bs → ((u : ℕ) → u < 256 → eqb u m ≡ eqb u (columnMask (Fields.parentColumnOf bs k) (Fields.widthOf bs k))) → not (anyFrom (λ i. eqb (Fields.uniqueOf bs (Fields.parentOf bs k) i) m) 4 0 && Fields.hasEnd bs k) ≡ keyOf (schemaOf bs) k .broken
     unfolding Fields.isBroken Fields.uniqueIs
     broken-mask m l e =
         let f = formed bs w in
         read-broken
-        (ap not
+        (ap (λ (a : Bool). not (a && Fields.hasEnd bs k))
         (any-same _ (Fields.uniqueIs bs k) 4 0 (λ i g. e (Fields.uniqueOf bs (Fields.parentOf bs k) i) (unique-byte bs f (Fields.parentOf bs k) l i (omega arith)))
         ∙ sym (parent-rest bs f k l)))
 
     -- and a mask that is that of the parent columns has as many ones
-    pub parent-ones : (m : ℕ) → ((u : ℕ) → u < 256 → eqb u m ≡ eqb u (columnMask (Fields.parentColumnOf bs k) (Fields.widthOf bs k))) → (u : ℕ) → u < 256 → u ≡ m → ones u ≡ length (keyOf (schemaOf bs) k .childColumns)
+    pub parent-ones : (m : ℕ) → ((u : ℕ) → u < 256 → eqb u m ≡ eqb u (columnMask (Fields.parentColumnOf bs k) (Fields.widthOf bs k))) → (u : ℕ) → u < 256 → u ≡ m → ones u ≡ length (childKey (keyOf (schemaOf bs) k))
     parent-ones m e u l q =
         let is : u ≡ columnMask (Fields.parentColumnOf bs k) (Fields.widthOf bs k) = eqb-true _ _ (sym (e u l) ∙ eq-eqb u m q) in
         ap ones is ∙ mask-ones (Fields.parentColumnOf bs k) (Fields.widthOf bs k) (parent-distinct bs (formed bs w) k (omega (arith, keys-are bs))) ∙ sym width-is
+
+    -- one that a unique key is, is that mask
+    pub parent-mask-is : (m : ℕ) → Fields.parentOf bs k < Fields.tableCount bs → ((u : ℕ) → u < 256 → eqb u m ≡ eqb u (columnMask (Fields.parentColumnOf bs k) (Fields.widthOf bs k))) → anyFrom (λ i. eqb (Fields.uniqueOf bs (Fields.parentOf bs k) i) m) 4 0 ≡ true → m ≡ columnMask (Fields.parentColumnOf bs k) (Fields.widthOf bs k)
+    parent-mask-is m l e a =
+        let s = any-some (λ i. eqb (Fields.uniqueOf bs (Fields.parentOf bs k) i) m) 4 0 a in
+        let u : ℕ = Fields.uniqueOf bs (Fields.parentOf bs k) (s .place) in
+        let is : u ≡ m = eqb-true _ _ (s .passes) in
+        let b : u < 256 = unique-byte bs (formed bs w) (Fields.parentOf bs k) l (s .place) (omega (arith, s .below)) in
+        sym is ∙ eqb-true _ _ (sym (e u b) ∙ eq-eqb u m is)
 
     pub read-deferred : {r : Bool} → r ≡ eqb (Fields.deferredOf bs k) 1 → r ≡ keyOf (schemaOf bs) k .deferred
     unfolding keyFrom
@@ -190,53 +204,98 @@ module _ (bs : List ℕ) (acc : Check.checkSchema bs ≡ Accepted) where
     -- as many parent columns as child columns
     pub same-width : length (keyOf (schemaOf bs) k .parentColumns) ≡ length (keyOf (schemaOf bs) k .childColumns)
     unfolding keyFrom
-    same-width = ap (λ (x : ForeignKey). length (x .parentColumns)) (key-is bs k h) ∙ length-from (Fields.parentColumnOf bs k) (Fields.widthOf bs k) 0 ∙ sym width-is
+    same-width =
+        ap (λ (x : ForeignKey). length (x .parentColumns)) (key-is bs k h)
+        ∙ length-from (Fields.parentColumnOf bs k) (Fields.pairsOf bs k) 0
+        ∙ sym (length-from (Fields.childColumnOf bs k) (Fields.pairsOf bs k) 0)
+        ∙ sym (ap (λ (x : ForeignKey). length (x .childColumns)) (key-is bs k h))
 
-    pub read-width : {r : ℕ} → r ≡ Fields.widthOf bs k → (r ≡ length (keyOf (schemaOf bs) k .childColumns)) × Within 1 4 r
+    pub read-width : {r : ℕ} → r ≡ Fields.widthOf bs k → (r ≡ length (childKey (keyOf (schemaOf bs) k))) × Within 1 4 r
     read-width e = (e ∙ sym width-is, rw e (codes-here .width))
 
-    module _ (i : ℕ) (l : i < length (keyOf (schemaOf bs) k .childColumns)) where
-      pub column-within : i < 4
-      column-within = omega (arith, width-is, codes-here .width)
+    -- one pair or more is beside the window
+    pub pairs-some : 1 ≤ length (keyOf (schemaOf bs) k .childColumns)
+    unfolding keyFrom
+    pairs-some = omega (arith, ap (λ (x : ForeignKey). length (x .childColumns)) (key-is bs k h), length-from (Fields.childColumnOf bs k) (Fields.pairsOf bs k) 0, codes-here .pairs)
 
+    windows-are : keyOf (schemaOf bs) k .windows ≡ cond (eqb (Fields.windowedOf bs k) 1) (record { day = Fields.dayOf bs k; first = Fields.firstOf bs k } ∷ []) []
+    unfolding keyFrom Fields.keyWindows
+    windows-are = ap (λ (x : ForeignKey). x .windows) (key-is bs k h)
+
+    pub read-windows : {r : ℕ} → r ≡ Fields.windowedOf bs k → (r ≡ length (keyOf (schemaOf bs) k .windows)) × (r ≤ 1)
+    read-windows e = (e ∙ by (Fields.windowedOf bs k) (codes-here .windowed) ∙ sym (ap length windows-are), omega (arith, codes-here .windowed))
+      where
+        by : (n : ℕ) → n ≤ 1 → n ≡ length {A = Window} (cond (eqb n 1) (record { day = Fields.dayOf bs k; first = Fields.firstOf bs k } ∷ []) [])
+        by zero l = refl
+        by (suc zero) l = refl
+        by (suc (suc n)) l = absurd (omega arith)
+
+    -- the end's column is the one behind the last parent column
+    pub read-end : (n : ℕ) → n ≡ length (childKey (keyOf (schemaOf bs) k)) → {r : ℕ} → r ≡ Bytes.byte bs (Fields.keyStart bs k + (9 + n)) → r + 1 ≡ Fields.endOf bs k
+    read-end n q e =
+        let at : Fields.keyStart bs k + (9 + n) ≡ Fields.keyStart bs k + 10 + (Fields.widthOf bs k - 1) = omega (arith, q, width-is, codes-here .width .low) in
+        rw (e, at) (omega arith)
+
+    module _ (i : ℕ) (l : i < Fields.widthOf bs k) where
       below : Fields.childColumnOf bs k i < Fields.columnsOf bs (Fields.childOf bs k)
       unfolding Fields.columnRule
       below =
           let f = formed bs w .key k (omega (arith, keys-are bs)) .childColumns in
           ltb-true _ _
           (rw (zero-add i) at
-          (all-at (Fields.columnRule bs (Fields.keyStart bs k + 6) (Fields.columnsOf bs (Fields.childOf bs k))) (Fields.widthOf bs k) 0 f i (omega (arith, width-is))))
+          (all-at (Fields.columnRule bs (Fields.keyStart bs k + 6) (Fields.columnsOf bs (Fields.childOf bs k))) (Fields.widthOf bs k) 0 f i l))
 
-      pub read-child-column : {r : ℕ} → r ≡ Fields.childColumnOf bs k i → (r ≡ getD (keyOf (schemaOf bs) k .childColumns) i 0) × (r < tableOf (schemaOf bs) (keyOf (schemaOf bs) k .child) .columns)
+      child-column-below : Fields.childColumnOf bs k i < tableOf (schemaOf bs) (keyOf (schemaOf bs) k .child) .columns
       unfolding keyFrom tableFrom
-      read-child-column e =
-          let t = table-is bs (Fields.childOf bs k) (omega (arith, codes-here .child, tables-are bs)) in (
-            e ∙ sym (ap (λ (x : ForeignKey). getD (x .childColumns) i 0) (key-is bs k h) ∙ get-list (Fields.childColumnOf bs k) (Fields.widthOf bs k) i 0 (omega (arith, width-is))),
-            rw (key-is bs k h, t, e) below,
-          )
+      child-column-below =
+          let t = table-is bs (Fields.childOf bs k) (omega (arith, codes-here .child, tables-are bs)) in
+          rw (key-is bs k h, t) below
 
       -- a key that is not broken has its parent columns in the parent table
-      pub read-parent-column : keyOf (schemaOf bs) k .broken ≡ false → {r : ℕ} → r ≡ Fields.parentColumnOf bs k i → (r ≡ getD (keyOf (schemaOf bs) k .parentColumns) i 0) × (r < tableOf (schemaOf bs) (keyOf (schemaOf bs) k .parent) .columns)
+      parent-column-below : keyOf (schemaOf bs) k .broken ≡ false → Fields.parentColumnOf bs k i < tableOf (schemaOf bs) (keyOf (schemaOf bs) k .parent) .columns
       unfolding keyFrom tableFrom
-      read-parent-column u e =
-          let there : Fields.parentOf bs k < length (schemaOf bs .tables) = rw (key-is bs k h) at (parent-key bs acc k h u .there) in (
-            e ∙ sym (ap (λ (x : ForeignKey). getD (x .parentColumns) i 0) (key-is bs k h) ∙ get-list (Fields.parentColumnOf bs k) (Fields.widthOf bs k) i 0 (omega (arith, width-is))),
-            rw (key-is bs k h, table-is bs (Fields.parentOf bs k) there, e) (parent-below bs acc k h u i (omega (arith, width-is))),
-          )
+      parent-column-below u =
+          let there : Fields.parentOf bs k < length (schemaOf bs .tables) = rw (key-is bs k h) at (parent-key bs acc k h u .there) in
+          rw (key-is bs k h, table-is bs (Fields.parentOf bs k) there) (parent-below bs acc k h u i l)
+
+    -- and the end of its window
+    end-below : keyOf (schemaOf bs) k .broken ≡ false → Fields.windowedOf bs k ≡ 1 → Fields.endOf bs k < tableOf (schemaOf bs) (keyOf (schemaOf bs) k .parent) .columns
+    unfolding keyFrom tableFrom Fields.hasEnd
+    end-below u e =
+        let there : Fields.parentOf bs k < length (schemaOf bs .tables) = rw (key-is bs k h) at (parent-key bs acc k h u .there) in
+        let r : ltb (Fields.endOf bs k) (Fields.columnsOf bs (Fields.parentOf bs k)) && allFrom (Fields.notEnd bs k) (Fields.widthOf bs k) 0 ≡ true = rw e at (has-end bs acc k h u) in
+        rw (key-is bs k h, table-is bs (Fields.parentOf bs k) there)
+        (ltb-true _ _ (and-left (ltb (Fields.endOf bs k) (Fields.columnsOf bs (Fields.parentOf bs k))) (allFrom (Fields.notEnd bs k) (Fields.widthOf bs k) 0) r))
 
     -- all columns, zeros behind them
-    pub read-child-columns : {r : List ℕ} → r ≡ Bytes.four bs (Fields.keyStart bs k + 6) → (take (length (keyOf (schemaOf bs) k .childColumns)) r ≡ keyOf (schemaOf bs) k .childColumns) × Columns (suc (tableOf (schemaOf bs) (keyOf (schemaOf bs) k .child) .columns)) (length (keyOf (schemaOf bs) k .childColumns)) r
-    unfolding keyFrom
+    pub read-child-columns : {r : List ℕ} → r ≡ Bytes.four bs (Fields.keyStart bs k + 6) → (take (length (childKey (keyOf (schemaOf bs) k))) r ≡ childKey (keyOf (schemaOf bs) k)) × Columns (suc (tableOf (schemaOf bs) (keyOf (schemaOf bs) k .child) .columns)) (length (childKey (keyOf (schemaOf bs) k))) r
     read-child-columns e =
-        columns-are bs (Fields.keyStart bs k + 6) _ _ (omega (arith, width-is, codes-here .width))
-        (ap (λ (x : ForeignKey). x .childColumns) (key-is bs k h) ∙ ap (λ (n : ℕ). listFrom (Fields.childColumnOf bs k) n 0) (sym width-is))
-        (λ i l. rw (← (read-child-column i l refl .0)) (read-child-column i l refl .1))
-        e
+        rw width-is
+        (columns-are bs (Fields.keyStart bs k + 6) _ _ (codes-here .width .high) child-key
+        (λ i l. rw (child-key, get-list (Fields.childColumnOf bs k) (Fields.widthOf bs k) i 0 l) (child-column-below i l))
+        e)
 
-    pub read-parent-columns : keyOf (schemaOf bs) k .broken ≡ false → {r : List ℕ} → r ≡ Bytes.four bs (Fields.keyStart bs k + 10) → (take (length (keyOf (schemaOf bs) k .childColumns)) r ≡ keyOf (schemaOf bs) k .parentColumns) × Columns (suc (tableOf (schemaOf bs) (keyOf (schemaOf bs) k .parent) .columns)) (length (keyOf (schemaOf bs) k .childColumns)) r
-    unfolding keyFrom
+    pub read-parent-columns : keyOf (schemaOf bs) k .broken ≡ false → {r : List ℕ} → r ≡ Bytes.four bs (Fields.keyStart bs k + 10) → (take (length (uniqueColumns (keyOf (schemaOf bs) k))) r ≡ uniqueColumns (keyOf (schemaOf bs) k)) × Columns (suc (tableOf (schemaOf bs) (keyOf (schemaOf bs) k .parent) .columns)) (length (uniqueColumns (keyOf (schemaOf bs) k))) r
     read-parent-columns u e =
-        columns-are bs (Fields.keyStart bs k + 10) _ _ (omega (arith, width-is, codes-here .width))
-        (ap (λ (x : ForeignKey). x .parentColumns) (key-is bs k h) ∙ ap (λ (n : ℕ). listFrom (Fields.parentColumnOf bs k) n 0) (sym width-is))
-        (λ i l. rw (← (read-parent-column i l u refl .0)) (read-parent-column i l u refl .1))
-        e
+        let long : length (uniqueColumns (keyOf (schemaOf bs) k)) ≡ Fields.widthOf bs k = ap length unique-columns ∙ length-from (Fields.parentColumnOf bs k) (Fields.widthOf bs k) 0 in
+        rw long
+        (columns-are bs (Fields.keyStart bs k + 10) _ _ (codes-here .width .high) unique-columns
+        (λ i l. rw (unique-columns, get-list (Fields.parentColumnOf bs k) (Fields.widthOf bs k) i 0 l) (parent-column-below i l u))
+        e)
+
+    -- the window of a key that is not broken: its day is in the child table, its end in the parent table
+    pub window-below : keyOf (schemaOf bs) k .broken ≡ false → (w : Window) → keyOf (schemaOf bs) k .windows ≡ w ∷ [] → (w .day < tableOf (schemaOf bs) (keyOf (schemaOf bs) k .child) .columns) × (suc (w .first) < tableOf (schemaOf bs) (keyOf (schemaOf bs) k .parent) .columns)
+    window-below u w e =
+        let one : Fields.windowedOf bs k ≡ 1 = read-windows refl .0 ∙ ap length e in
+        let is : record { day = Fields.dayOf bs k; first = Fields.firstOf bs k } ∷ [] ≡ w ∷ [] = ap (λ (n : ℕ). cond (eqb n 1) (record { day = Fields.dayOf bs k; first = Fields.firstOf bs k } ∷ []) []) (sym one) ∙ sym windows-are ∙ e in
+        let day : Fields.dayOf bs k ≡ w .day = ap (λ (l : List Window). days l) is in
+        let first : Fields.firstOf bs k ≡ w .first = ap (λ (l : List Window). firsts l) is in
+        (rw (← day) (child-column-below (Fields.widthOf bs k - 1) (omega (arith, codes-here .width))), rw (← first) (end-below u one))
+      where
+        days : List Window → ℕ
+        days [] = 0
+        days (w ∷ ws) = w .day
+
+        firsts : List Window → ℕ
+        firsts [] = 0
+        firsts (w ∷ ws) = w .first

@@ -1,12 +1,12 @@
 -- What bytes that break no rule of refusal 1 are. Assumes nothing.
-use mathlib.Core.Path.{_≡_}
-use mathlib.Core.Bool.{Bool, true, _&&_}
+use mathlib.Core.Path.{_≡_, refl}
+use mathlib.Core.Bool.{Bool, true, false, _&&_}
 use mathlib.Core.List.{List}
 use Prim.Native.Nat.{ℕ, _+_, _*_, _<_, _≤_}
 use native.Mathlib.Nat.{zero-add}
 use native.Mathlib.Omega.{arith}
 use borrow.Author.Tests.{leb-true, ltb-true, eqb-true}
-use lib.Dec.{leb}
+use lib.Dec.{leb, eqb}
 use lib.ListN.{length}
 use Rattle.schema.specs.Ranges.{allFrom}
 use Rattle.schema.specs.Bounds.{Within}
@@ -56,6 +56,19 @@ pub record Codes (bs : List ℕ) (k : ℕ) : Type 0 where
   pub onDelete : Fields.onDeleteOf bs k ≤ 4
   pub onUpdate : Fields.onUpdateOf bs k ≤ 4
   pub width : Within 1 4 (Fields.widthOf bs k)
+  pub windowed : Fields.windowedOf bs k ≤ 1
+  pub pairs : Within 1 4 (Fields.pairsOf bs k)
+
+-- a windowed key has a pair beside its window
+pairs-within : (bs : List ℕ) (k : ℕ) → Within 1 4 (Fields.widthOf bs k) → Fields.windowedOf bs k ≤ 1 → Check.windowedRule bs k ≡ true → Within 1 4 (Fields.pairsOf bs k)
+unfolding Check.windowedRule
+pairs-within bs k n w e = by (eqb (Fields.windowedOf bs k) 0) refl
+  where
+    by : (t : Bool) → eqb (Fields.windowedOf bs k) 0 ≡ t → Within 1 4 (Fields.pairsOf bs k)
+    by true z = let none : Fields.windowedOf bs k ≡ 0 = eqb-true _ _ z in record { low = omega (arith, n .low); high = omega (arith, n .high) }
+    by false z =
+        let two : 2 ≤ Fields.widthOf bs k = leb-true _ _ (and-left (leb 2 (Fields.widthOf bs k)) _ (rw z at e)) in
+        record { low = omega (arith, two, w); high = omega (arith, n .high) }
 
 pub codes : (bs : List ℕ) (k : ℕ) → Check.codeRules bs k ≡ true → Codes bs k
 unfolding Check.codeRules
@@ -66,6 +79,8 @@ codes bs k e =
       onDelete = leb-true _ _ (every-at _ e 2 (omega arith));
       onUpdate = leb-true _ _ (every-at _ e 3 (omega arith));
       width = within-is _ _ _ (every-at _ e 4 (omega arith));
+      windowed = leb-true _ _ (every-at _ e 6 (omega arith));
+      pairs = pairs-within bs k (within-is _ _ _ (every-at _ e 4 (omega arith))) (leb-true _ _ (every-at _ e 6 (omega arith))) (every-at _ e 7 (omega arith));
     }
 
 -- what the rules of a table's record say, as tests

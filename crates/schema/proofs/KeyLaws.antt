@@ -1,26 +1,27 @@
 -- The foreign keys of an accepted schema. Assumes nothing.
 use mathlib.Core.Path.{_≡_, refl, sym, ap, _∙_}
-use mathlib.Core.Bool.{Bool, true, false, false≢true, _&&_}
-use mathlib.Core.List.{List}
+use mathlib.Core.Bool.{Bool, true, false, not, cond, false≢true, _&&_}
+use mathlib.Core.List.{List, [], _∷_, _++_, map, append-nil}
 use mathlib.Core.Logic.{_⊎_, inl, inr}
 use Prim.Native.Nat.{ℕ, zero, suc, _+_, _-_, _/_, _^_, _<_, _≤_}
 use native.Mathlib.Nat.{zero-add}
 use native.Mathlib.Omega.{arith}
-use borrow.Author.Tests.{ltb-true, lt-ltb, eqb-true, eqb-false, not-true, not-false}
+use borrow.Author.Tests.{ltb-true, lt-ltb, le-ltb, eqb-true, eqb-false, eq-eqb, ne-eqb, not-true, not-false}
 use lib.Dec.{ltb, eqb}
 use lib.Pow.{pow-mono}
 use lib.ListN.{length}
 use Rattle.schema.specs.declared.SchemaAnswer.the-variants.{Accepted}
 use Rattle.schema.specs.Ranges.{allFrom, anyFrom, listFrom}
-use Rattle.schema.specs.Records.{ForeignKey, keyOf}
+use Rattle.schema.specs.Records.{Window, ForeignKey, childKey, uniqueColumns, keyOf}
 use Rattle.schema.specs.Bytes
 use Rattle.schema.specs.Bytes.{bit, columnMask}
 use Rattle.schema.specs.Fields
 use Rattle.schema.specs.Fields.{tableFrom, keyFrom, schemaOf}
 use Rattle.schema.specs.Check
 use Rattle.schema.specs.ParentKey.{Mem, ParentKey}
-use Rattle.schema.proofs.RangeLaws.{and-left, and-false, all-at, all-each}
-use Rattle.schema.proofs.Formed.{Formed, formed, and3}
+use Rattle.schema.proofs.RangeLaws.{and-left, and-right, and-false, all-at, all-each}
+use Rattle.schema.proofs.Formed.{Codes, Formed, formed, and3}
+use Rattle.schema.proofs.ListLaws.{list-last}
 use Rattle.schema.proofs.MaskLaws.{Distinct, Found, mask-each, mask-only, mask-below, quotient-none}
 use Rattle.schema.proofs.SchemaLaws.{tables-are, keys-are, table-is, key-is, accepted-formed}
 
@@ -30,7 +31,7 @@ pub record Some (p : ℕ → Bool) (n : ℕ) : Type 0 where
   pub below : place < n
   pub passes : p place ≡ true
 
-any-some : (p : ℕ → Bool) (n j : ℕ) → anyFrom p n j ≡ true → Some p (j + n)
+pub any-some : (p : ℕ → Bool) (n j : ℕ) → anyFrom p n j ≡ true → Some p (j + n)
 unfolding anyFrom
 any-some p zero j e = absurd (false≢true e)
 any-some p (suc n) j e = go (p j) refl (λ q. any-some p n (suc j) q)
@@ -59,6 +60,21 @@ module _ {A : Type 0} (f : ℕ → A) where
   out-from zero j x P k m = absurd m
   out-from (suc n) j x P k (inl e) = k j (omega arith) e
   out-from (suc n) j x P k (inr m) = out-from n (suc j) x P (λ i h e. k i (omega arith) e) m
+
+-- none of distinct columns is c where their mask has not its bit
+mask-lacks : (p : ℕ → ℕ) (n : ℕ) → Distinct p n → (c : ℕ) → allFrom (λ i. not (eqb (p i) c)) n 0 ≡ not (bit c (columnMask p n))
+mask-lacks p n d c = go (bit c (columnMask p n)) refl
+  where
+    other : bit c (columnMask p n) ≡ false → (i : ℕ) → i < n → p i ≡ c → ⊥
+    other h i l e = false≢true (sym h ∙ ap (λ (x : ℕ). bit x (columnMask p n)) (sym e) ∙ mask-each p n d i l)
+
+    hit : Found p n c → (t : Bool) → allFrom (λ i. not (eqb (p i) c)) n 0 ≡ t → t ≡ false
+    hit f false a = refl
+    hit f true a = absurd (eqb-false _ _ (not-true _ (all-at (λ i. not (eqb (p i) c)) n 0 a (f .place) (f .below))) (ap p (zero-add (f .place)) ∙ f .is))
+
+    go : (t : Bool) → bit c (columnMask p n) ≡ t → allFrom (λ i. not (eqb (p i) c)) n 0 ≡ not t
+    go true h = hit (mask-only p n d c h) (allFrom (λ i. not (eqb (p i) c)) n 0) refl
+    go false h = all-each (λ i. not (eqb (p i) c)) n 0 (λ i l. ap not (ne-eqb _ _ (λ e. other h i l (sym (ap p (zero-add i)) ∙ e))))
 
 -- ---- the parent key
 
@@ -113,6 +129,45 @@ module _ (bs : List ℕ) (f : Formed bs) where
         go true e = rw (lt-ltb t (Fields.tableCount bs) h, columns-there e)
         go false e = rw e (and-false (ltb t (Fields.tableCount bs) && allFrom (Fields.columnRule bs (Fields.keyStart bs k + 10) (Fields.columnsOf bs t)) (Fields.widthOf bs k) 0))
 
+  -- ---- the end of a window
+
+  -- a key without one needs none
+  pub end-none : (k : ℕ) → Fields.windowedOf bs k ≡ 0 → true ≡ Fields.hasEnd bs k
+  unfolding Fields.hasEnd
+  end-none k e = sym (rw (eq-eqb (Fields.windowedOf bs k) 0 e))
+
+  module _ (k : ℕ) (s : Fields.windowedOf bs k ≡ 0 → ⊥) where
+    pub end-missing : Fields.columnsOf bs (Fields.parentOf bs k) ≤ Fields.endOf bs k → false ≡ Fields.hasEnd bs k
+    unfolding Fields.hasEnd
+    end-missing l = sym (rw (ne-eqb (Fields.windowedOf bs k) 0 s, le-ltb (Fields.endOf bs k) (Fields.columnsOf bs (Fields.parentOf bs k)) l))
+
+    -- a column that is there is the end where it is not in the mask of the parent columns
+    pub end-by-mask : k < Fields.keyCount bs → Fields.endOf bs k < Fields.columnsOf bs (Fields.parentOf bs k) → not (bit (Fields.endOf bs k) (columnMask (Fields.parentColumnOf bs k) (Fields.widthOf bs k))) ≡ Fields.hasEnd bs k
+    unfolding Fields.hasEnd
+    end-by-mask h l =
+        sym
+        (rw (ne-eqb (Fields.windowedOf bs k) 0 s, lt-ltb (Fields.endOf bs k) (Fields.columnsOf bs (Fields.parentOf bs k)) l)
+        (mask-lacks (Fields.parentColumnOf bs k) (Fields.widthOf bs k) (parent-distinct k h) (Fields.endOf bs k)))
+
+-- ---- the columns of a record: those of the pairs, and the last one of a windowed key
+
+with-last : (f : ℕ → ℕ) (w n : ℕ) → w ≤ 1 → 1 ≤ n → (column : Window → ℕ) (v : Window) → column v ≡ f (n - 1) → listFrom f (n - w) 0 ++ map column (cond (eqb w 1) (v ∷ []) []) ≡ listFrom f n 0
+with-last f zero n h l column v q = let e : n - 0 ≡ n = omega arith in rw e (append-nil (listFrom f n 0))
+with-last f (suc zero) zero h l column v q = absurd (omega arith)
+with-last f (suc zero) (suc n) h l column v q =
+    let e : suc n - 1 ≡ n = omega arith in
+    let last : column v ≡ f (0 + n) = q ∙ ap f (e ∙ sym (zero-add n)) in
+    rw e (ap (λ (x : ℕ). listFrom f n 0 ++ (x ∷ [])) last ∙ list-last f n 0)
+with-last f (suc (suc w)) n h l column v q = absurd (omega arith)
+
+pub child-key-is : (bs : List ℕ) (k : ℕ) → Codes bs k → childKey (keyFrom bs k) ≡ listFrom (Fields.childColumnOf bs k) (Fields.widthOf bs k) 0
+unfolding childKey keyFrom Fields.keyWindows
+child-key-is bs k c = with-last (Fields.childColumnOf bs k) (Fields.windowedOf bs k) (Fields.widthOf bs k) (c .windowed) (c .width .low) (λ w. w .day) _ refl
+
+pub unique-columns-are : (bs : List ℕ) (k : ℕ) → Codes bs k → uniqueColumns (keyFrom bs k) ≡ listFrom (Fields.parentColumnOf bs k) (Fields.widthOf bs k) 0
+unfolding uniqueColumns keyFrom Fields.keyWindows
+unique-columns-are bs k c = with-last (Fields.parentColumnOf bs k) (Fields.windowedOf bs k) (Fields.widthOf bs k) (c .windowed) (c .width .low) (λ w. w .first) _ refl
+
 -- a foreign key of an accepted schema that is not broken
 module _ (bs : List ℕ) (e : Check.checkSchema bs ≡ Accepted) (k : ℕ) (h : k < length (schemaOf bs .keys)) (u : keyOf (schemaOf bs) k .broken ≡ false) where
   abbrev p : ℕ → ℕ
@@ -124,9 +179,19 @@ module _ (bs : List ℕ) (e : Check.checkSchema bs ≡ Accepted) (k : ℕ) (h : 
   form : Formed bs
   form = formed bs (accepted-formed bs e)
 
-  has : Fields.hasParentKey bs k ≡ true
+  codes-are : Codes bs k
+  codes-are = form .key k (omega (arith, keys-are bs)) .codes
+
+  both : Fields.hasParentKey bs k && Fields.hasEnd bs k ≡ true
   unfolding keyFrom Fields.isBroken
-  has = not-false _ (sym (ap (λ (x : ForeignKey). x .broken) (key-is bs k h)) ∙ u)
+  both = not-false _ (sym (ap (λ (x : ForeignKey). x .broken) (key-is bs k h)) ∙ u)
+
+  has : Fields.hasParentKey bs k ≡ true
+  has = and-left (Fields.hasParentKey bs k) (Fields.hasEnd bs k) both
+
+  -- the end of its window is in the parent table, and not in the key
+  pub has-end : Fields.hasEnd bs k ≡ true
+  has-end = and-right (Fields.hasParentKey bs k) (Fields.hasEnd bs k) both
 
   parts : (ltb (Fields.parentOf bs k) (Fields.tableCount bs) ≡ true) × (allFrom (Fields.columnRule bs (Fields.keyStart bs k + 10) (Fields.columnsOf bs (Fields.parentOf bs k))) n 0 ≡ true) × (anyFrom (Fields.uniqueIs bs k) 4 0 ≡ true)
   unfolding Fields.hasParentKey
@@ -149,10 +214,10 @@ module _ (bs : List ℕ) (e : Check.checkSchema bs ≡ Accepted) (k : ℕ) (h : 
         there = there;
         unique = Fields.uniqueOf bs t (s .place);
         listed = rw (table-is bs t there) (in-from (Fields.uniqueOf bs t) 4 0 (s .place) (omega arith) (omega arith));
-        each = λ c q. rw m (out-from p n 0 c (bit c (columnMask p n) ≡ true) (λ j g e. rw e (mask-each p n distinct j (omega (arith, zero-add n)))) q);
+        each = λ c q. rw m (out-from p n 0 c (bit c (columnMask p n) ≡ true) (λ j g e. rw e (mask-each p n distinct j (omega (arith, zero-add n)))) (rw (unique-columns-are bs k codes-are) at q));
         only = λ c q.
             let f : Found p n c = mask-only p n distinct c (rw m at q) in
-            rw (← f .is) (in-from p n 0 (f .place) (omega arith) (omega (arith, f .below, zero-add n)));
+            rw (unique-columns-are bs k codes-are, ← f .is) (in-from p n 0 (f .place) (omega arith) (omega (arith, f .below, zero-add n)));
       }
 
   -- its parent columns are below the parent table's

@@ -1,7 +1,7 @@
 -- Laws of lists made from a range or from another list. Assumes nothing.
 use mathlib.Core.Path.{_≡_, refl, ap, _∙_}
 use mathlib.Core.Bool.{Bool, true}
-use mathlib.Core.List.{List, [], _∷_, map}
+use mathlib.Core.List.{List, [], _∷_, _++_, map}
 use Prim.Native.Nat.{ℕ, zero, suc, _+_, _<_}
 use native.Mathlib.Nat.{add-zero, zero-add}
 use native.Mathlib.Omega.{arith}
@@ -21,6 +21,12 @@ module _ {A : Type 0} (f : ℕ → A) where
   get-from (suc n) j (suc i) d h =
       let q : j + suc i ≡ suc j + i = omega arith in
       rw q (get-from n (suc j) i d (omega arith))
+
+  -- the last element stands behind the others
+  pub list-last : (n j : ℕ) → listFrom f n j ++ (f (j + n) ∷ []) ≡ listFrom f (suc n) j
+  unfolding listFrom
+  list-last zero j = rw add-zero refl
+  list-last (suc n) j = let q : j + suc n ≡ suc j + n = omega arith in rw q (ap (λ l. f j ∷ l) (list-last n (suc j)))
 
   -- element i of a list from 0 on
   pub get-list : (n i : ℕ) (d : A) → i < n → getD (listFrom f n 0) i d ≡ f i

@@ -103,7 +103,11 @@ newColumn bs at i = allFrom (differ bs at i) i 0
 unfoldable pub columnsRule : List ℕ → ℕ → ℕ → Bool
 columnsRule bs at n = allFrom (newColumn bs at) n 0 && allFrom (isByte bs at 255) (4 - n) n
 
--- child table, deferred, actions, column count, match
+-- "windowed needs n of 2 or more and both actions below 2"
+unfoldable pub windowedRule : List ℕ → ℕ → Bool
+windowedRule bs k = eqb (Fields.windowedOf bs k) 0 || (leb 2 (Fields.widthOf bs k) && (ltb (Fields.onDeleteOf bs k) 2 && ltb (Fields.onUpdateOf bs k) 2))
+
+-- child table, deferred, actions, column count, match, window
 unfoldable pub codeRules : List ℕ → ℕ → Bool
 codeRules bs k =
     every
@@ -113,16 +117,17 @@ codeRules bs k =
     ∷ actionRule (Fields.onUpdateOf bs k)
     ∷ within 1 4 (Fields.widthOf bs k)
     ∷ leb (Fields.matchOf bs k) 1
+    ∷ leb (Fields.windowedOf bs k) 1
+    ∷ windowedRule bs k
     ∷ [])
 
--- columns, zero byte
+-- columns
 unfoldable pub keyRest : List ℕ → ℕ → Bool
 keyRest bs k =
     every
     (allFrom (Fields.columnRule bs (Fields.keyStart bs k + 6) (Fields.columnsOf bs (Fields.childOf bs k))) (Fields.widthOf bs k) 0
     ∷ columnsRule bs (Fields.keyStart bs k + 6) (Fields.widthOf bs k)  -- child columns
     ∷ columnsRule bs (Fields.keyStart bs k + 10) (Fields.widthOf bs k)  -- parent columns
-    ∷ isByte bs (Fields.keyStart bs k) 0 15  -- a zero byte
     ∷ [])
 
 unfoldable pub keyRules : List ℕ → ℕ → Bool

@@ -1,8 +1,8 @@
 -- Schema bytes: where each field stands, and the schema that the bytes are. Little-endian; all fields unsigned except the defaults.
 -- Assumes nothing.
-use mathlib.Core.Bool.{Bool, not, cond, _&&_}
-use mathlib.Core.List.{List}
-use Prim.Native.Nat.{ℕ, _+_, _*_}
+use mathlib.Core.Bool.{Bool, not, cond, _&&_, _||_}
+use mathlib.Core.List.{List, [], _∷_}
+use Prim.Native.Nat.{ℕ, suc, _+_, _-_, _*_}
 use lib.Dec.{ltb, eqb}
 use lib.IntN.{ℤ}
 use Rattle.schema.specs.Bytes.{byte, half, signedWord, foldsOf, columnMask}
@@ -11,7 +11,7 @@ use Rattle.schema.specs.declared.Action.the-variants.{NoAction, Restrict
 use Rattle.schema.specs.declared.Match.{Match}
 use Rattle.schema.specs.declared.Match.the-variants.{Simple, Full}
 use Rattle.schema.specs.Ranges.{allFrom, anyFrom, listFrom}
-use Rattle.schema.specs.Records.{Table, ForeignKey, Schema}
+use Rattle.schema.specs.Records.{Table, Window, ForeignKey, Schema}
 
 -- ---- the header, 16 bytes
 
@@ -104,6 +104,25 @@ parentColumnOf bs k i = byte bs (keyStart bs k + 10 + i)
 abbrev pub matchOf : List ℕ → ℕ → ℕ
 matchOf bs k = byte bs (keyStart bs k + 14)
 
+-- "Byte 15 of a foreign key record is 0 as today or 1 windowed"
+abbrev pub windowedOf : List ℕ → ℕ → ℕ
+windowedOf bs k = byte bs (keyStart bs k + 15)
+
+-- how many pairs must be equal: all, but for the last of a windowed key
+abbrev pub pairsOf : List ℕ → ℕ → ℕ
+pairsOf bs k = widthOf bs k - windowedOf bs k
+
+-- "The last child column is a day."
+abbrev pub dayOf : List ℕ → ℕ → ℕ
+dayOf bs k = childColumnOf bs k (widthOf bs k - 1)
+
+-- "The last parent column is the first day, and the next-numbered column the day after the last"
+abbrev pub firstOf : List ℕ → ℕ → ℕ
+firstOf bs k = parentColumnOf bs k (widthOf bs k - 1)
+
+abbrev pub endOf : List ℕ → ℕ → ℕ
+endOf bs k = suc (firstOf bs k)
+
 -- 0 NO ACTION, 1 RESTRICT, 2 SET NULL, 3 SET DEFAULT, 4 CASCADE; the check refuses every other code
 unfoldable pub actionFrom : ℕ → Action
 actionFrom c = cond (eqb c 1) Restrict (cond (eqb c 2) SetNull (cond (eqb c 3) SetDefault (cond (eqb c 4) Cascade NoAction)))
@@ -129,15 +148,26 @@ hasParentKey bs k =
     && allFrom (columnRule bs (keyStart bs k + 10) (columnsOf bs (parentOf bs k))) (widthOf bs k) 0
     && anyFrom (uniqueIs bs k) 4 0
 
--- "Such a foreign key (the old refusal 2) is now called broken, and the schema is accepted."
+-- parent column i is not the end's
+abbrev pub notEnd : List ℕ → ℕ → ℕ → Bool
+notEnd bs k i = not (eqb (parentColumnOf bs k i) (endOf bs k))
+
+-- the end's column of a windowed key is neither "missing" nor "in the key"
+unfoldable pub hasEnd : List ℕ → ℕ → Bool
+hasEnd bs k = eqb (windowedOf bs k) 0 || (ltb (endOf bs k) (columnsOf bs (parentOf bs k)) && allFrom (notEnd bs k) (widthOf bs k) 0)
+
+-- "Such a foreign key (the old refusal 2) is now called broken, and the schema is accepted."; of a windowed one, "if that is missing or in the key, the foreign key is broken"
 unfoldable pub isBroken : List ℕ → ℕ → Bool
-isBroken bs k = not (hasParentKey bs k)
+isBroken bs k = not (hasParentKey bs k && hasEnd bs k)
 
 -- ---- the foreign key
 
 -- "a foreign key uses the parent column's" marking
 unfoldable pub keyFolds : List ℕ → ℕ → List Bool
-keyFolds bs k = foldsOf (foldedOf bs (parentOf bs k)) (listFrom (parentColumnOf bs k) (widthOf bs k) 0)
+keyFolds bs k = foldsOf (foldedOf bs (parentOf bs k)) (listFrom (parentColumnOf bs k) (pairsOf bs k) 0)
+
+unfoldable pub keyWindows : List ℕ → ℕ → List Window
+keyWindows bs k = cond (eqb (windowedOf bs k) 1) (record { day = dayOf bs k; first = firstOf bs k } ∷ []) []
 
 unfoldable pub keyFrom : List ℕ → ℕ → ForeignKey
 keyFrom bs k =
@@ -147,11 +177,12 @@ keyFrom bs k =
       deferred = eqb (deferredOf bs k) 1;
       onDelete = actionFrom (onDeleteOf bs k);
       onUpdate = actionFrom (onUpdateOf bs k);
-      childColumns = listFrom (childColumnOf bs k) (widthOf bs k) 0;
-      parentColumns = listFrom (parentColumnOf bs k) (widthOf bs k) 0;
+      childColumns = listFrom (childColumnOf bs k) (pairsOf bs k) 0;
+      parentColumns = listFrom (parentColumnOf bs k) (pairsOf bs k) 0;
       match = matchFrom (matchOf bs k);
       broken = isBroken bs k;
       folds = keyFolds bs k;
+      windows = keyWindows bs k;
     }
 
 -- ---- the whole

@@ -7,7 +7,7 @@ use mathlib.Core.Logic.{_⊎_}
 use Prim.Native.Nat.{ℕ, _<_}
 use lib.ListN.{length}
 use Rattle.schema.specs.Bytes.{bit}
-use Rattle.schema.specs.Records.{ForeignKey, Schema, tableOf}
+use Rattle.schema.specs.Records.{ForeignKey, Schema, uniqueColumns, tableOf}
 
 module _ {A : Type 0} (x : A) where
   -- x is in the list
@@ -20,5 +20,5 @@ pub record ParentKey (s : Schema) (key : ForeignKey) : Type 0 where
   pub there : key .parent < length (s .tables)
   pub unique : ℕ  -- the unique key's mask
   pub listed : Mem unique (tableOf s (key .parent) .uniques)
-  pub each : (c : ℕ) → Mem c (key .parentColumns) → bit c unique ≡ true
-  pub only : (c : ℕ) → bit c unique ≡ true → Mem c (key .parentColumns)
+  pub each : (c : ℕ) → Mem c (uniqueColumns key) → bit c unique ≡ true
+  pub only : (c : ℕ) → bit c unique ≡ true → Mem c (uniqueColumns key)
