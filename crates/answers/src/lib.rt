@@ -31,6 +31,7 @@ pub fn refusal_number(refusal: Refusal) -> i64
         Refusal::CommitWithOrphans => 21,
         Refusal::ListTooShort => 22,
         Refusal::BrokenKey => 23,
+        Refusal::BadWindow => 24,
     }
 }
 

@@ -13,14 +13,14 @@ use Rattle.schema.specs.Bytes.{bit}
 use Rattle.schema.specs.Records.{ForeignKey, Schema, noKey, tableOf}
 use Rattle.schema.specs.Fields.{schemaOf}
 use Rattle.schema.proofs.MaskLaws.{bit-none}
-use Rattle.rules.specs.declared.Refusal.the-variants.{JournalFull, BrokenKey, NotNull, NotUnique}
+use Rattle.rules.specs.declared.Refusal.the-variants.{JournalFull, BrokenKey, NotNull, NotUnique, BadWindow}
 use Rattle.rules.specs.declared.Verdict.the-variants.{Pass, Fail}
 use Rattle.rules.specs.Refusals.{failing}
 use Rattle.rules.specs.Lists.{𝟘, any}
 use Rattle.rules.specs.Rows.{Row, Tables, rowAt, image, deletedImage, live}
 use Rattle.rules.specs.Keys.{uses, usesBroken}
 use Rattle.rules.specs.Book.{Work}
-use Rattle.rules.specs.Change.{notNullBroken, uniqueBroken, admits, childImage, cascaded, actionOf}
+use Rattle.rules.specs.Change.{notNullBroken, uniqueBroken, badWindow, admits, childImage, cascaded, actionOf}
 use Rattle.bridge.proofs.KeyLaws.{live-same, get-padded}
 use Rattle.table_keys.specs.Touched.{brokenAt, brokenUsed, BrokenKeys}
 use Rattle.table_keys.proofs.TouchLaws.{not-used}
@@ -76,9 +76,14 @@ module _ (s : Schema) (t r : ℕ) (new : Row) (w : Work) where
         unfolding admits failing
         admits-unique e = sym (rw (room, none, on, full, e) refl)
 
-        pub admits-pass : uniqueBroken (tableOf s t) r new (getD (w .tabs) t []) ≡ false → Pass ≡ admits s t r new w
-        unfolding admits failing
-        admits-pass e = sym (rw (room, none, on, full, e) refl)
+        module _ (apart : uniqueBroken (tableOf s t) r new (getD (w .tabs) t []) ≡ false) where
+          pub admits-window : any (badWindow t r new (getD (w .tabs) t [])) (s .keys) ≡ true → Fail BadWindow ≡ admits s t r new w
+          unfolding admits failing
+          admits-window e = sym (rw (room, none, on, full, apart, e) refl)
+
+          pub admits-pass : any (badWindow t r new (getD (w .tabs) t [])) (s .keys) ≡ false → Pass ≡ admits s t r new w
+          unfolding admits failing
+          admits-pass e = sym (rw (room, none, on, full, apart, e) refl)
 
 -- ---- the action
 

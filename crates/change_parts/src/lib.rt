@@ -1,9 +1,10 @@
 // The parts of a row change: its checks, the child rows that its actions take, and the images that they give them.
 ghost use mathlib.Core.Path.{_≡_};
-ghost use mathlib.Core.Bool.{true};
+ghost use mathlib.Core.Bool.{true, not, _&&_};
+ghost use mathlib.Core.List.{[]};
 ghost use Prim.Native.Nat.{_<_};
-ghost use lib.ListN.{length};
-ghost use Rattle.schema.specs.Records.{keyOf};
+ghost use lib.ListN.{length, getD};
+ghost use Rattle.schema.specs.Records.{parentKey, keyOf};
 ghost use Rattle.schema.specs.Fields.{schemaOf};
 ghost use Rattle.schema.specs.Check.{checkSchema};
 ghost use Rattle.rules.specs.Rows;
@@ -12,17 +13,20 @@ ghost use Rattle.rules.specs.Keys;
 ghost use Rattle.rules.specs.Keys.{fullKey};
 ghost use Rattle.rules.specs.Change;
 ghost use Rattle.bridge.specs.Fit.{workOf};
-ghost use Rattle.bridge.specs.Ready.{Placed};
-ghost use Rattle.rows.specs.KeyColumns.{WholeKey};
+ghost use Rattle.bridge.specs.Ready.{Ready, Placed};
+ghost use Rattle.rows.specs.KeyColumns.{PlainKey};
+ghost use Rattle.windows.specs.WindowKey.{WindowedKey, WindowColumns};
 ghost use Rattle.rows.specs.Sought.{soughtValues};
-ghost use Rattle.table_keys.specs.Touched.{BrokenKeys};
-ghost use Rattle.change_parts.specs.Turns.{deletesChild, actionImage, oldKey, FollowersOf};
+ghost use Rattle.table_keys.specs.Touched.{BrokenKeys, KeysOf};
+ghost use Rattle.change_parts.specs.Turns.{deletesChild, actionImage, oldKey, FollowersOf, restricted, WindowTurn};
 use rows::SoughtKey;
 use rows::TableRows;
 use rules::Refusal;
 use rules::Verdict;
 use schema::Action;
 use schema::SchemaAnswer;
+use table_keys::TableKeys;
+use windows::WindowKey;
 
 // What the child rows of a foreign key are gone through by: their table and where they stand, the old parent key in their
 // columns, folded where it is compared so, the parent columns and the action. It is read once, before the first of them is
@@ -64,22 +68,22 @@ fn uses_broken(
     table_keys::uses_broken(schema, t, broken, lives, lived)
 }
 
-// The checks of a row change, in their order. `broken` has the broken keys that touch the table.
+// The checks of a row change, in their order. `keys` has the foreign keys that touch the table.
 pub fn admits(
     schema: &[u8],
     area: &[i64],
-    broken: usize,
+    keys: TableKeys,
     t: usize,
     r: usize,
     image: [i64; 9],
 ) -> Verdict
-    requires { ⌜ Placed (now schema) (now area) t r × BrokenKeys (now schema) t broken ⌝ }
+    requires { ⌜ Placed (now schema) (now area) t r × KeysOf (now schema) t keys ⌝ }
     ensures { λ x. ⌜ x ≡ Change.admits (schemaOf (now (schema .entry))) t r image (workOf (schemaOf (now (schema .entry))) (now (area .entry))) ⌝ }
 {
     if area::is_full(schema, area) {
         return Verdict::Fail(Refusal::JournalFull);
     }
-    if uses_broken(schema, area, broken, t, r, image) {
+    if uses_broken(schema, area, keys.broken, t, r, image) {
         return Verdict::Fail(Refusal::BrokenKey);
     }
     if !rows::image_live(image) {
@@ -90,6 +94,9 @@ pub fn admits(
     }
     if constraints::unique_broken(schema, area, t, r, image) {
         return Verdict::Fail(Refusal::NotUnique);
+    }
+    if window_keys::windows_broken(schema, area, keys.windowed, t, r, image) {
+        return Verdict::Fail(Refusal::BadWindow);
     }
     Verdict::Pass
 }
@@ -107,10 +114,10 @@ pub fn action_of(schema: &[u8], k: usize, new: [i64; 9]) -> Action
 
 // ---- the child rows that follow a parent row
 
-// What the child rows of foreign key k, which is not broken, are gone through by, when a parent row turns from `old`, which
-// has no NULL in its key, to `new`.
+// What the child rows of foreign key k, which is not broken and has no window, are gone through by, when a parent row turns
+// from `old`, which has no NULL in its key, to `new`.
 pub fn followers_of(schema: &[u8], k: usize, old: [i64; 9], new: [i64; 9]) -> Followers
-    requires { ⌜ WholeKey (now schema) k × (fullKey (keyOf (schemaOf (now schema)) k .parentColumns) old ≡ true) ⌝ }
+    requires { ⌜ PlainKey (now schema) k × (fullKey (parentKey (keyOf (schemaOf (now schema)) k)) old ≡ true) ⌝ }
     ensures { λ x. ⌜ FollowersOf (now (schema .entry)) k new x × (soughtValues (x .key) ≡ oldKey (keyOf (schemaOf (now (schema .entry))) k) old) ⌝ }
 {
     let t = fields::child(schema, k);
@@ -165,4 +172,49 @@ pub fn child_after(
     let cs = key.cs;
     let ps = f.ps;
     images::child_image(schema, k, f.table, action, key.n, cs, ps, new, x)
+}
+
+// ---- keys with a window
+
+// What RESTRICT says of foreign key k, which fires: it refuses where a child row maps to the old image and not to the new one.
+fn restrict(
+    schema: &[u8],
+    area: &[i64],
+    k: usize,
+    old: [i64; 9],
+    new: [i64; 9],
+    key: WindowKey,
+) -> Verdict
+    requires { ⌜ (Ready (now schema) (now area) × WindowColumns (now schema) k key) × (fullKey (parentKey (keyOf (schemaOf (now schema)) k)) old ≡ true) ⌝ }
+    ensures { λ o. ⌜ o ≡ restricted (Lists.any (λ c. Keys.takes (keyOf (schemaOf (now (schema .entry))) k) old c && not (Keys.serves (keyOf (schemaOf (now (schema .entry))) k) c new)) (getD (workOf (schemaOf (now (schema .entry))) (now (area .entry)) .tabs) (keyOf (schemaOf (now (schema .entry))) k .child) [])) ⌝ }
+{
+    if window_keys::leaves_any(schema, area, k, old, new, key) {
+        return Verdict::Fail(Refusal::Restricted);
+    }
+    Verdict::Pass
+}
+
+// The action of foreign key k, if it is one of those with a window and follows: RESTRICT, or NO ACTION, which takes no row.
+pub fn window_turn(
+    schema: &[u8],
+    area: &[i64],
+    t: usize,
+    old: [i64; 9],
+    new: [i64; 9],
+    k: usize,
+) -> Verdict
+    requires { ⌜ Ready (now schema) (now area) × WindowedKey (now schema) k ⌝ }
+    ensures { λ o. ⌜ WindowTurn (schemaOf (now (schema .entry))) new t old (keyOf (schemaOf (now (schema .entry))) k) (workOf (schemaOf (now (schema .entry))) (now (area .entry))) o ⌝ }
+{
+    if fields::parent(schema, k) != t {
+        return Verdict::Pass;
+    }
+    let key = windows::window_key(schema, k);
+    if !windows::key_changes(old, new, key) {
+        return Verdict::Pass;
+    }
+    match action_of(schema, k, new) {
+        Action::Restrict => restrict(schema, area, k, old, new, key),
+        _ => Verdict::Pass,
+    }
 }

@@ -6,35 +6,37 @@ use mathlib.Core.List.{List, [], _∷_}
 use Prim.Native.Nat.{ℕ, zero, suc, _+_, _-_, _≤_, _<_}
 use native.Mathlib.Numerals.{add-one}
 use native.Mathlib.Omega.{arith}
-use borrow.Author.Tests.{ne-eqb}
 use lib.Dec.{eqb}
 use lib.IntN.{ℤ}
 use lib.ListN.{length, drop}
 use lib.Seq.{drop-cons}
 use Rattle.schema.specs.declared.Action.{Action}
 use Rattle.schema.specs.declared.Action.the-variants.{NoAction, Restrict, SetNull, SetDefault, Cascade}
-use Rattle.schema.specs.Records.{ForeignKey, Schema, noKey, tableOf, keyOf}
+use Rattle.schema.specs.Records.{ForeignKey, Schema, parentKey, noKey, tableOf, keyOf}
 use Rattle.rules.specs.declared.Refusal.{Refusal}
 use Rattle.rules.specs.declared.Refusal.the-variants.{TooDeep, Restricted}
 use Rattle.rules.specs.declared.Verdict.{Verdict}
 use Rattle.rules.specs.declared.Verdict.the-variants.{Pass, Fail}
-use Rattle.rules.specs.Lists.{upFrom}
-use Rattle.rules.specs.Rows.{Row, image, live}
-use Rattle.rules.specs.Keys.{fullKey, sameParentKey, fires}
+use Rattle.rules.specs.Lists.{any, upFrom}
+use Rattle.rules.specs.Rows.{Row, Tables, rowAt, image, live, nullAt}
+use Rattle.rules.specs.Keys.{fullKey, serves, sameParentKey, fires}
 use Rattle.rules.specs.Book.{Work, write}
 use Rattle.rules.specs.Change.{Change, go, then, given, admits, admitted, actionOf, taken, keyTurn, actions, change}
-use Rattle.rules.specs.KeyValues.{keyValues, childHasKey, turnByValues, childrenByValues}
+use Rattle.rules.specs.KeyValues.{keyValues, hasOldKey, childHasKey, turnByValues, childrenByValues}
 use Rattle.bridge.specs.Ready.{Placed, resultOf}
-use Rattle.schema.proofs.RangeLaws.{and-left, and-right}
+use Rattle.schema.proofs.RangeLaws.{and-right}
 use Rattle.bridge.proofs.Tests.{fails}
 use Rattle.bridge.proofs.Undo.{spared}
 use Rattle.bridge.proofs.TurnLaws.{turns-start, turns-none, turns-past, turns-done, turns-refused}
-use Rattle.bridge.proofs.ValueLaws.{children-values}
+use Rattle.bridge.proofs.ValueLaws.{takes-values, children-values}
+use Rattle.bridge.proofs.KeyLaws.{serves-same, get-padded}
 use Rattle.table_keys.specs.Touched.{touches, wholeAt}
 use Rattle.moves.specs.Tally.{TalliedAt}
-use Rattle.change_parts.specs.Turns.{deletesChild, actionImage, oldKey}
-use Rattle.change_parts.proofs.FollowerLaws.{children-compared}
+use Rattle.moves.proofs.Taken.{restrict-first}
+use Rattle.change_parts.specs.Turns.{deletesChild, actionImage, oldKey, Unserved, WindowTurn}
+use Rattle.change_parts.proofs.FollowerLaws.{old-compared, children-compared}
 use Rattle.change_parts.proofs.PartLaws.{cascade-image}
+use Rattle.change_parts.proofs.WindowTurns.{old-full}
 
 -- a row with its tally is in the area
 pub at-placed : {b : List ℕ} {tally a : List ℤ} {t r : ℕ} → TalliedAt b tally a t r → Placed b a t r
@@ -108,34 +110,52 @@ pub not-whole-still : (new : Row) (t : ℕ) (old : Row) (k : ForeignKey) → who
 unfolding wholeAt touches fires
 not-whole-still new t old k h = go (eqb (k .child) t) (eqb (k .parent) t) (k .broken) h
   where
-    go : (c p b : Bool) → (c || p) && not b ≡ false → p && (not b && (fullKey (k .parentColumns) old && not (sameParentKey k old new))) ≡ false
+    go : (c p b : Bool) → (c || p) && not b ≡ false → p && (not b && (fullKey (parentKey k) old && not (sameParentKey k old new))) ≡ false
     go c false b e = refl
     go c true true e = refl
     go true true false e = absurd (true≢false e)
     go false true false e = absurd (true≢false e)
-
--- nor has one of another parent table
-pub not-parent-still : (new : Row) (t : ℕ) (old : Row) (k : ForeignKey) → (k .parent ≡ t → ⊥) → fires new t old k ≡ false
-unfolding fires
-not-parent-still new t old k h = rw (ne-eqb (k .parent) t h)
 
 module _ (rec : Change) (s : Schema) (new : Row) (t : ℕ) (old : Row) (k : ForeignKey) (w : Work) where
   pub key-off : fires new t old k ≡ false → resultOf Pass w ≡ keyTurn rec s new t old k w
   unfolding keyTurn given resultOf
   key-off e = sym (rw e refl)
 
-  module _ (e : fires new t old k ≡ true) where
-    pub old-full : fullKey (k .parentColumns) old ≡ true
-    unfolding fires
-    old-full = and-left (fullKey (k .parentColumns) old) _ (and-right (not (k .broken)) _ (and-right (eqb (k .parent) t) _ e))
+  pub key-window : {o : Verdict} → WindowTurn s new t old k w o → resultOf o w ≡ keyTurn rec s new t old k w
+  key-window h = sym (h .turn rec)
+
+  module _ (e : fires new t old k ≡ true) (plain : k .windows ≡ []) (same-count : length (k .childColumns) ≡ length (k .parentColumns)) where
+    few : length (k .windows) ≤ 1
+    few = rw plain (omega arith)
+
+    filled : any (nullAt old) (parentKey k) ≡ false
+    unfolding fullKey
+    filled = fails _ (and-right (live old) _ (old-full new t old k e))
 
     pub key-on : {vs : List ℤ} → vs ≡ oldKey k old → childrenByValues rec s new k vs (upFrom 0 (tableOf s (k .child) .rows)) w ≡ keyTurn rec s new t old k w
-    unfolding keyTurn given fullKey oldKey
+    unfolding keyTurn given oldKey
     key-on v =
         let rows = upFrom 0 (tableOf s (k .child) .rows) in
         rw v
-        (children-compared k (keyValues (k .parentColumns) old) rec s new rows w
-        ∙ sym (rw e (children-values old k (fails _ (and-right (live old) _ old-full)) rec s new rows w)))
+        (children-compared k plain (keyValues (parentKey k) old) rec s new rows w
+        ∙ sym (rw e (children-values old k same-count few filled rec s new rows w)))
+
+    -- a row with the old key is one that the actions take: it does not map to the new row
+    pub unserved : {vs : List ℤ} → vs ≡ oldKey k old → Unserved k vs new
+    unfolding oldKey
+    unserved v =
+        record {
+          none = λ row h.
+              let has = sym (old-compared k plain (keyValues (parentKey k) old) row) ∙ ap (λ (us : List ℤ). hasOldKey k us row) (sym v) ∙ h in
+              restrict-first k t 0 old new (w .tabs) same-count plain e row (takes-values old k same-count few filled row ∙ has);
+        }
+
+-- ---- a row that has the old key
+pub row-unserved : (k : ForeignKey) (vs : List ℤ) (new : Row) → Unserved k vs new → (tabs : Tables) (i t : ℕ) → t ≡ k .child → childHasKey k vs tabs i ≡ true → serves k (image t i tabs) new ≡ false
+unfolding childHasKey image
+row-unserved k vs new u tabs i t e h =
+    let row = rowAt (k .child) i tabs in
+    ap (λ (u : ℕ). serves k (image u i tabs) new) e ∙ serves-same _ row (get-padded 9 row) k new ∙ u .none row h
 
 -- ---- a taken row
 module _ (rec : Change) (s : Schema) (new : Row) (k : ForeignKey) (j : ℕ) (x : Row) (w : Work) (a : Action) (ea : a ≡ actionOf new k) where
@@ -143,9 +163,9 @@ module _ (rec : Change) (s : Schema) (new : Row) (k : ForeignKey) (j : ℕ) (x :
   unfolding taken resultOf
   row-none e = rw (← ea, e) refl
 
-  pub row-restrict : a ≡ Restrict → resultOf (Fail Restricted) w ≡ taken rec s new (actionOf new k) k j x w
-  unfolding taken resultOf
-  row-restrict e = rw (← ea, e) refl
+  pub row-restrict : a ≡ Restrict → serves k x new ≡ false → resultOf (Fail Restricted) w ≡ taken rec s new (actionOf new k) k j x w
+  unfolding taken given resultOf
+  row-restrict e h = rw (← ea, e, h) refl
 
   module _ (t : ℕ) (et : t ≡ k .child) (y : Row) where
     -- by an action that gives it an image

@@ -14,7 +14,7 @@ ghost use Rattle.rules.specs.Change;
 ghost use Rattle.bridge.specs.Fit.{workOf};
 ghost use Rattle.bridge.specs.Ready.{Ready, Placed};
 ghost use Rattle.rows.specs.Standing.{Standing, RowsOf, rowsIn};
-ghost use Rattle.rows.specs.KeyColumns.{KeyColumns, MaskWithin};
+ghost use Rattle.rows.specs.KeyColumns.{PlainKey, KeyColumns, MaskWithin};
 use rows::KeyPairs;
 use rows::TableRows;
 use schema::Match;
@@ -76,7 +76,7 @@ fn is_served(
     parents: TableRows,
     pairs: KeyPairs,
 ) -> bool
-    requires { ⌜ (Ready (now schema) (now area) × (Keys.fullKey (take (pairs .n) (pairs .cs)) image ≡ true)) × (KeyColumns (now schema) k pairs × RowsOf (now schema) (keyOf (schemaOf (now schema)) k .parent) parents) ⌝ }
+    requires { ⌜ (Ready (now schema) (now area) × (Keys.fullKey (take (pairs .n) (pairs .cs)) image ≡ true)) × ((KeyColumns (now schema) k pairs × PlainKey (now schema) k) × RowsOf (now schema) (keyOf (schemaOf (now schema)) k .parent) parents) ⌝ }
     ensures { λ x. ⌜ x ≡ Lists.any (Keys.serves (keyOf (schemaOf (now (schema .entry))) k) image) (getD (workOf (schemaOf (now (schema .entry))) (now (area .entry)) .tabs) (keyOf (schemaOf (now (schema .entry))) k .parent) []) ⌝ }
 {
     let cs = pairs.cs;
@@ -105,7 +105,7 @@ pub fn is_orphan_among(
     parents: TableRows,
     pairs: KeyPairs,
 ) -> bool
-    requires { ⌜ Ready (now schema) (now area) × (KeyColumns (now schema) k pairs × RowsOf (now schema) (keyOf (schemaOf (now schema)) k .parent) parents) ⌝ }
+    requires { ⌜ Ready (now schema) (now area) × ((KeyColumns (now schema) k pairs × PlainKey (now schema) k) × RowsOf (now schema) (keyOf (schemaOf (now schema)) k .parent) parents) ⌝ }
     ensures { λ x. ⌜ x ≡ Keys.orphan (keyOf (schemaOf (now (schema .entry))) k) (getD (workOf (schemaOf (now (schema .entry))) (now (area .entry)) .tabs) (keyOf (schemaOf (now (schema .entry))) k .parent) []) image ⌝ }
 {
     let cs = pairs.cs;
@@ -123,7 +123,7 @@ pub fn is_orphan_image(
     image: [i64; 9],
     pairs: KeyPairs,
 ) -> bool
-    requires { ⌜ Ready (now schema) (now area) × KeyColumns (now schema) k pairs ⌝ }
+    requires { ⌜ Ready (now schema) (now area) × (KeyColumns (now schema) k pairs × PlainKey (now schema) k) ⌝ }
     ensures { λ x. ⌜ x ≡ Keys.orphan (keyOf (schemaOf (now (schema .entry))) k) (getD (workOf (schemaOf (now (schema .entry))) (now (area .entry)) .tabs) (keyOf (schemaOf (now (schema .entry))) k .parent) []) image ⌝ }
 {
     let cs = pairs.cs;

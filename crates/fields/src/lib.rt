@@ -6,7 +6,7 @@ ghost use lib.IntN.{pos};
 ghost use lib.Dec.{ltb, eqb};
 ghost use lib.ListN.{length, getD, take};
 ghost use Rattle.schema.specs.Bounds.{Within, Columns};
-ghost use Rattle.schema.specs.Records.{tableOf, keyOf};
+ghost use Rattle.schema.specs.Records.{childKey, uniqueColumns, tableOf, keyOf};
 ghost use Rattle.schema.specs.Bytes;
 ghost use Rattle.schema.specs.Bytes.{columnMask};
 ghost use Rattle.schema.specs.Ranges.{anyFrom};
@@ -197,9 +197,25 @@ pub fn key_match(bytes: &[u8], k: usize) -> Match
 // The number of columns of foreign key k.
 pub fn width(bytes: &[u8], k: usize) -> usize
     requires { ⌜ (checkSchema (now bytes) ≡ SchemaAnswer.Accepted) × (k < length (schemaOf (now bytes) .keys)) ⌝ }
-    ensures { λ r. ⌜ (r ≡ length (keyOf (schemaOf (now (bytes .entry))) k .childColumns)) × Within 1 4 r ⌝ }
+    ensures { λ r. ⌜ (r ≡ length (childKey (keyOf (schemaOf (now (bytes .entry))) k))) × Within 1 4 r ⌝ }
 {
     key_byte(bytes, k, 5)
+}
+
+// How many windows foreign key k has: one where it is windowed.
+pub fn windows(bytes: &[u8], k: usize) -> usize
+    requires { ⌜ (checkSchema (now bytes) ≡ SchemaAnswer.Accepted) × (k < length (schemaOf (now bytes) .keys)) ⌝ }
+    ensures { λ r. ⌜ (r ≡ length (keyOf (schemaOf (now (bytes .entry))) k .windows)) × (r ≤ 1) ⌝ }
+{
+    key_byte(bytes, k, 15)
+}
+
+// The column behind the last of foreign key k's n parent columns: the end's, where the key is windowed.
+fn end_column(bytes: &[u8], k: usize, n: usize) -> usize
+    requires { ⌜ (checkSchema (now bytes) ≡ SchemaAnswer.Accepted) × ((k < length (schemaOf (now bytes) .keys)) × (n ≡ length (childKey (keyOf (schemaOf (now bytes)) k)))) ⌝ }
+    ensures { λ r. ⌜ r ≡ Fields.endOf (now (bytes .entry)) k ⌝ }
+{
+    key_byte(bytes, k, 9 + n) + 1
 }
 
 // The four bytes from p on, and four zeros.
@@ -222,7 +238,7 @@ fn columns_at(bytes: &[u8], p: usize) -> [usize; 8]
 // The four child-column bytes of foreign key k, whose columns come first, and four zeros.
 pub fn child_columns(bytes: &[u8], k: usize) -> [usize; 8]
     requires { ⌜ (checkSchema (now bytes) ≡ SchemaAnswer.Accepted) × (k < length (schemaOf (now bytes) .keys)) ⌝ }
-    ensures { λ r. ⌜ (take (length (keyOf (schemaOf (now (bytes .entry))) k .childColumns)) r ≡ keyOf (schemaOf (now (bytes .entry))) k .childColumns) × Columns (suc (tableOf (schemaOf (now (bytes .entry))) (keyOf (schemaOf (now (bytes .entry))) k .child) .columns)) (length (keyOf (schemaOf (now (bytes .entry))) k .childColumns)) r ⌝ }
+    ensures { λ r. ⌜ (take (length (childKey (keyOf (schemaOf (now (bytes .entry))) k))) r ≡ childKey (keyOf (schemaOf (now (bytes .entry))) k)) × Columns (suc (tableOf (schemaOf (now (bytes .entry))) (keyOf (schemaOf (now (bytes .entry))) k .child) .columns)) (length (childKey (keyOf (schemaOf (now (bytes .entry))) k))) r ⌝ }
 {
     columns_at(bytes, numbers::key_start(bytes, k) + 6)
 }
@@ -230,7 +246,7 @@ pub fn child_columns(bytes: &[u8], k: usize) -> [usize; 8]
 // The four parent-column bytes of foreign key k, which is not broken: its columns come first, and four zeros.
 pub fn parent_columns(bytes: &[u8], k: usize) -> [usize; 8]
     requires { ⌜ (checkSchema (now bytes) ≡ SchemaAnswer.Accepted) × ((k < length (schemaOf (now bytes) .keys)) × (keyOf (schemaOf (now bytes)) k .broken ≡ false)) ⌝ }
-    ensures { λ r. ⌜ (take (length (keyOf (schemaOf (now (bytes .entry))) k .childColumns)) r ≡ keyOf (schemaOf (now (bytes .entry))) k .parentColumns) × Columns (suc (tableOf (schemaOf (now (bytes .entry))) (keyOf (schemaOf (now (bytes .entry))) k .parent) .columns)) (length (keyOf (schemaOf (now (bytes .entry))) k .childColumns)) r ⌝ }
+    ensures { λ r. ⌜ (take (length (uniqueColumns (keyOf (schemaOf (now (bytes .entry))) k))) r ≡ uniqueColumns (keyOf (schemaOf (now (bytes .entry))) k)) × Columns (suc (tableOf (schemaOf (now (bytes .entry))) (keyOf (schemaOf (now (bytes .entry))) k .parent) .columns)) (length (uniqueColumns (keyOf (schemaOf (now (bytes .entry))) k))) r ⌝ }
 {
     columns_at(bytes, numbers::key_start(bytes, k) + 10)
 }
@@ -239,7 +255,7 @@ pub fn parent_columns(bytes: &[u8], k: usize) -> [usize; 8]
 
 // The mask of foreign key k's n parent columns; 256, which is no mask, where one of them is above 7.
 fn parent_mask(bytes: &[u8], k: usize, n: usize) -> usize
-    requires { ⌜ (checkSchema (now bytes) ≡ SchemaAnswer.Accepted) × ((k < length (schemaOf (now bytes) .keys)) × (n ≡ length (keyOf (schemaOf (now bytes)) k .childColumns))) ⌝ }
+    requires { ⌜ (checkSchema (now bytes) ≡ SchemaAnswer.Accepted) × ((k < length (schemaOf (now bytes) .keys)) × (n ≡ length (childKey (keyOf (schemaOf (now bytes)) k)))) ⌝ }
     ensures { λ r. ⌜ SameMask r (columnMask (Fields.parentColumnOf (now (bytes .entry)) k) (Fields.widthOf (now (bytes .entry)) k)) ⌝ }
 {
     let mut m = 0;
@@ -281,6 +297,22 @@ fn has_unique(bytes: &[u8], t: usize, n: usize, m: usize) -> bool
     false
 }
 
+// Whether foreign key k of n columns, where it is windowed, has its end: a column of the parent table t that is not in the
+// mask m of the parent columns.
+fn has_end(bytes: &[u8], k: usize, t: usize, n: usize, m: usize) -> bool
+    requires { ⌜ ((checkSchema (now bytes) ≡ SchemaAnswer.Accepted) × (k < length (schemaOf (now bytes) .keys))) × (((t < length (schemaOf (now bytes) .tables)) × (t ≡ Fields.parentOf (now bytes) k)) × ((n ≡ length (childKey (keyOf (schemaOf (now bytes)) k))) × (m ≡ columnMask (Fields.parentColumnOf (now bytes) k) (Fields.widthOf (now bytes) k)))) ⌝ }
+    ensures { λ r. ⌜ r ≡ Fields.hasEnd (now (bytes .entry)) k ⌝ }
+{
+    if windows(bytes, k) == 0 {
+        return true;
+    }
+    let end = end_column(bytes, k, n);
+    if columns(bytes, t) <= end {
+        return false;
+    }
+    !numbers::bit_of(end, m)
+}
+
 // Whether foreign key k is broken.
 pub fn is_broken(bytes: &[u8], k: usize) -> bool
     requires { ⌜ (checkSchema (now bytes) ≡ SchemaAnswer.Accepted) × (k < length (schemaOf (now bytes) .keys)) ⌝ }
@@ -293,7 +325,10 @@ pub fn is_broken(bytes: &[u8], k: usize) -> bool
     }
     let n = width(bytes, k);
     let m = parent_mask(bytes, k, n);
-    !has_unique(bytes, t, n, m)
+    if !has_unique(bytes, t, n, m) {
+        return true;
+    }
+    !has_end(bytes, k, t, n, m)
 }
 
 // ---- the area

@@ -1,5 +1,6 @@
 // Numbers in a slice of bytes, little-endian; bits of a mask; where a foreign key's record begins.
 ghost use mathlib.Core.Path.{_≡_};
+ghost use mathlib.Core.Bool.{not, _&&_};
 ghost use Prim.Native.Nat.{_+_, _*_, _^_, _≤_, _<_};
 ghost use lib.Count.{ones};
 ghost use lib.ListN.{length};
@@ -7,7 +8,7 @@ ghost use mir.Syntax.{w64};
 ghost use mir.Val.{toZ};
 ghost use Rattle.schema.specs.Bytes.{byte, half, word, signedWord, bit};
 ghost use Rattle.schema.specs.Fields.{keyStart};
-ghost use Rattle.schema.specs.Marks.{marked};
+ghost use Rattle.schema.specs.Marks.{marked, Marks};
 
 // A byte as a number.
 pub fn wide(x: u8) -> usize
@@ -121,4 +122,17 @@ pub fn key_start(s: &[u8], k: usize) -> usize
     ensures { λ r. ⌜ r ≡ keyStart (now (s .entry)) k ⌝ }
 {
     16 + 80 * half_at(s, 4) + 16 * k
+}
+
+// The bits of a mask of 32 that another has not.
+pub fn without(m: usize, q: usize) -> usize
+    ensures { λ r. ⌜ Marks (λ k. bit k m && not (bit k q)) 32 r ⌝ }
+{
+    let mut rest = 0;
+    let mut k = 0;
+    while k < 32 {
+        rest = marked(rest, k, bit_of(k, m) & !bit_of(k, q));
+        k += 1;
+    }
+    rest
 }

@@ -57,7 +57,7 @@ module _ (b : List ℕ) (a : List ℤ) (k : ℕ) where
 
   module _ (h : Ready b a) (x : KeyRows) (e : KeyRowsOf b k x) where
     child-there : childTable < length (schemaOf b .tables)
-    child-there = child-table b (h .accepted) k (e .columns .columns .parents .whole-key .key)
+    child-there = child-table b (h .accepted) k (e .whole-key .key)
 
     -- how many child rows there are
     pub children-few : x .children .count ≤ 1024

@@ -11,16 +11,30 @@ ghost use Rattle.rules.specs.Keys;
 ghost use Rattle.bridge.specs.Fit.{workOf};
 ghost use Rattle.bridge.specs.Ready.{Ready};
 ghost use Rattle.rows.specs.KeyColumns.{WholeKey};
-ghost use Rattle.orphans.specs.KeyRows.{KeyRowsOf, Searched};
+ghost use Rattle.orphans.specs.KeyRows.{ColumnsOf, KeyRowsOf, Searched};
 use rows::KeyPairs;
 use rows::TableRows;
 use schema::SchemaAnswer;
+use windows::WindowKey;
 
-// The child rows of a foreign key, its parent rows and its column pairs.
+// The child rows of a foreign key, its parent rows and its columns: its pairs, whether it has a window (1, else 0), and then the
+// columns of the day and of the first day.
 pub struct KeyRows {
     pub children: TableRows,
     pub parents: TableRows,
-    pub pairs: KeyPairs,
+    pub windowed: usize,
+    pub columns: WindowKey,
+}
+
+// The columns of a key without a window.
+fn plain_columns(pairs: KeyPairs) -> WindowKey
+    ensures { λ x. ⌜ x .pairs ≡ pairs ⌝ }
+{
+    WindowKey {
+        pairs: pairs,
+        day: 0,
+        first: 0,
+    }
 }
 
 // No rows and no columns.
@@ -42,8 +56,20 @@ pub fn no_rows() -> KeyRows
     KeyRows {
         children: none,
         parents: none,
-        pairs: pairs,
+        windowed: 0,
+        columns: plain_columns(pairs),
     }
+}
+
+// The columns of foreign key k, which is not broken and has so many windows.
+fn key_columns(schema: &[u8], k: usize, windowed: usize) -> WindowKey
+    requires { ⌜ WholeKey (now schema) k × ((windowed ≡ length (keyOf (schemaOf (now schema)) k .windows)) × (windowed ≤ 1)) ⌝ }
+    ensures { λ x. ⌜ ColumnsOf (now (schema .entry)) k windowed x ⌝ }
+{
+    if windowed == 0 {
+        return plain_columns(rows::key_pairs(schema, k));
+    }
+    windows::window_key(schema, k)
 }
 
 // The rows and the columns of foreign key k, which is not broken.
@@ -53,11 +79,13 @@ fn key_rows(schema: &[u8], k: usize) -> KeyRows
 {
     let children = rows::rows_of(schema, fields::child(schema, k));
     let parents = rows::rows_of(schema, fields::parent(schema, k));
-    let pairs = rows::key_pairs(schema, k);
+    let windowed = fields::windows(schema, k);
+    let columns = key_columns(schema, k, windowed);
     KeyRows {
         children: children,
         parents: parents,
-        pairs: pairs,
+        windowed: windowed,
+        columns: columns,
     }
 }
 
@@ -81,7 +109,11 @@ pub fn is_orphan(schema: &[u8], area: &[i64], k: usize, key: KeyRows, j: usize) 
     let w = children.width;
     let image = words::image_at(area, children.start + j * w, w);
     let parents = key.parents;
-    let pairs = key.pairs;
+    let columns = key.columns;
+    if key.windowed != 0 {
+        return window_keys::is_orphan(schema, area, k, image, parents, columns);
+    }
+    let pairs = columns.pairs;
     constraints::is_orphan_among(schema, area, k, image, parents, pairs)
 }
 

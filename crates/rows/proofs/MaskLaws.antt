@@ -153,7 +153,7 @@ module _ (m : ℕ) {n : ℕ} (cs : List ℕ) (k : n ≡ length (maskColumns m)) 
     unfolding maskBroken
     mask-null h = let q : fullKey (maskColumns m) new ≡ false = rw list-is at h in rw (ne-eqb m 0 e, q)
 
-    pub mask-full : fullKey (take n cs) new ≡ true → {fs : List Bool} → fs ≡ foldsOf folded (take n cs) → twice fs (take n cs) r new 0 rows ≡ maskBroken folded r new rows m
+    pub mask-full : fullKey (take n cs) new ≡ true → {fs : List Bool} → fs ≡ foldsOf folded (take n cs) → twice fs (take n cs) r new rows ≡ maskBroken folded r new rows m
     unfolding maskBroken
     mask-full h f = let q : fullKey (maskColumns m) new ≡ true = rw list-is at h in rw (f, ne-eqb m 0 e, q, list-is)
 

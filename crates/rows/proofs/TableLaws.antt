@@ -1,6 +1,6 @@
 -- The rows of a table as they stand in the area, and the columns of its keys.
 -- Assumes nothing.
-use mathlib.Core.Path.{subst, _≡_, refl, sym, ap, ap₂, _∙_}
+use mathlib.Core.Path.{_≡_, refl, sym, ap, ap₂, _∙_}
 use mathlib.Core.Bool.{false}
 use mathlib.Core.List.{List, []}
 use Prim.Native.Nat.{ℕ, suc, _+_, _*_, _≤_, _<_}
@@ -11,13 +11,13 @@ use lib.Seq.{ext-getD}
 use Rattle.schema.specs.declared.SchemaAnswer.the-variants.{Accepted}
 use Rattle.schema.specs.Bounds.{Columns}
 use Rattle.schema.specs.Bytes.{foldsOf}
-use Rattle.schema.specs.Records.{tableOf, keyOf}
+use Rattle.schema.specs.Records.{ForeignKey, childKey, uniqueColumns, tableOf, keyOf}
 use Rattle.schema.specs.Fields.{schemaOf}
 use Rattle.schema.specs.Check.{checkSchema}
 use Rattle.schema.specs.Sizes.{tableSize, rowsSize, tableOffset, areaSize}
 use Rattle.schema.proofs.ListLaws.{length-from, get-list}
 use Rattle.schema.proofs.KeyLaws.{parent-key}
-use Rattle.schema.proofs.FieldLaws.{read-rows, read-columns, read-child, folds-are}
+use Rattle.schema.proofs.FieldLaws.{read-rows, read-columns, read-child, folds-are, same-width}
 use Rattle.rules.specs.Rows.{rowAt}
 use Rattle.bridge.specs.Fit.{workOf}
 use Rattle.bridge.specs.Ready.{Ready, rowIn}
@@ -27,6 +27,7 @@ use Rattle.rows.specs.declared.TableRows.{TableRows}
 use Rattle.rows.specs.Standing.{RowAt, Standing, rowsIn, RowsOf, PlacedAt}
 use Rattle.rows.specs.KeyColumns.{foldsIn, WholeKey, ParentColumns, PairColumns, KeyColumns}
 use Rattle.rows.proofs.CellLaws.{widen}
+use Rattle.rows.proofs.ColumnLaws.{fewer, child-pairs, parent-pairs}
 
 -- ---- rows that stand in an area
 abbrev pub rowsFrom : ℕ → ℕ → ℕ → TableRows
@@ -123,17 +124,21 @@ module _ (b : List ℕ) (a : List ℤ) (h : Ready b a) (t : ℕ) (l : t < length
 abbrev pub Read : ℕ → ℕ → List ℕ → List ℕ → Type 0
 Read w n columns cs = (take n cs ≡ columns) × Columns (suc w) n cs
 
-module _ (b : List ℕ) (k : ℕ) (w : WholeKey b k) {n : ℕ} (e : n ≡ length (keyOf (schemaOf b) k .childColumns)) where
-  read : {m : ℕ} {columns cs : List ℕ} → Read m (length (keyOf (schemaOf b) k .childColumns)) columns cs → Read m n columns cs
-  read {m} {columns} {cs} r = subst (λ (l : ℕ). Read m l columns cs) (sym e) r
+module _ (b : List ℕ) (k : ℕ) (w : WholeKey b k) (n : ℕ) (e : n ≡ length (keyOf (schemaOf b) k .childColumns)) where
+  abbrev K : ForeignKey
+  K = keyOf (schemaOf b) k
 
-  module _ (ps : List ℕ) (g : Read (tableOf (schemaOf b) (keyOf (schemaOf b) k .parent) .columns) (length (keyOf (schemaOf b) k .childColumns)) (keyOf (schemaOf b) k .parentColumns) ps) where
+  module _ (ps : List ℕ) (g : Read (tableOf (schemaOf b) (K .parent) .columns) (length (uniqueColumns K)) (uniqueColumns K) ps) where
+    parents : (take n ps ≡ K .parentColumns) × (n ≤ length (uniqueColumns K))
+    parents = parent-pairs K ps n (e ∙ sym (same-width b (w .accepted) k (w .key))) (g .0)
+
     pub parent-columns : ParentColumns b k n ps
-    parent-columns = record { whole-key = w; parent-is = read g .0; parent-within = read g .1 }
+    parent-columns = record { whole-key = w; parent-is = parents .0; parent-within = fewer n (parents .1) (g .1) }
 
-    pub key-columns : (cs : List ℕ) → Read (tableOf (schemaOf b) (keyOf (schemaOf b) k .child) .columns) (length (keyOf (schemaOf b) k .childColumns)) (keyOf (schemaOf b) k .childColumns) cs → {f : ℕ} → foldsIn n f ≡ keyOf (schemaOf b) k .folds
-        → KeyColumns b k (record { n = n; folded = f; cs = cs; ps = ps })
-    key-columns cs r f = record { columns = record { parents = parent-columns; child-is = read r .0; child-within = read r .1 }; folds-are = f }
+    pub key-columns : (cs : List ℕ) → Read (tableOf (schemaOf b) (K .child) .columns) (length (childKey K)) (childKey K) cs → {f : ℕ} → foldsIn n f ≡ K .folds → KeyColumns b k (record { n = n; folded = f; cs = cs; ps = ps })
+    key-columns cs r f =
+        let children = child-pairs K cs n e (r .0) in
+        record { columns = record { parents = parent-columns; child-is = children .0; child-within = fewer n (children .1) (r .1) }; folds-are = f }
 
 module _ (b : List ℕ) (k n : ℕ) (ps : List ℕ) (h : ParentColumns b k n ps) where
   pub parent-wide : Columns 9 n ps

@@ -2,7 +2,7 @@
 -- Assumes nothing.
 use mathlib.Core.Path.{_≡_}
 use mathlib.Core.Bool.{Bool, false}
-use mathlib.Core.List.{List}
+use mathlib.Core.List.{List, []}
 use Prim.Native.Nat.{ℕ, suc, _<_}
 use lib.ListN.{length, getD, take}
 use Rattle.schema.specs.declared.SchemaAnswer.the-variants.{Accepted}
@@ -25,18 +25,23 @@ pub record WholeKey (b : List ℕ) (k : ℕ) : Type 0 where
   pub key : k < length (schemaOf b .keys)
   pub whole : keyOf (schemaOf b) k .broken ≡ false
 
--- and table t is its parent
-pub record WholeParent (b : List ℕ) (t k : ℕ) : Type 0 where
+-- and has no window
+pub record PlainKey (b : List ℕ) (k : ℕ) : Type 0 where
   pub whole-key : WholeKey b k
+  pub plain : keyOf (schemaOf b) k .windows ≡ []
+
+-- and table t is its parent
+pub record PlainParent (b : List ℕ) (t k : ℕ) : Type 0 where
+  pub plain-key : PlainKey b k
   pub parent-is : keyOf (schemaOf b) k .parent ≡ t
 
--- its parent columns: n of them, at the start of ps
+-- the parent columns of its pairs: n of them, at the start of ps
 pub record ParentColumns (b : List ℕ) (k n : ℕ) (ps : List ℕ) : Type 0 where
   pub whole-key : WholeKey b k
   pub parent-is : take n ps ≡ keyOf (schemaOf b) k .parentColumns
   pub parent-within : Columns (suc (tableOf (schemaOf b) (keyOf (schemaOf b) k .parent) .columns)) n ps
 
--- its columns: n child columns at the start of cs, and the parent columns
+-- its pairs: n child columns at the start of cs, and the parent columns
 pub record PairColumns (b : List ℕ) (k n : ℕ) (cs ps : List ℕ) : Type 0 where
   pub parents : ParentColumns b k n ps
   pub child-is : take n cs ≡ keyOf (schemaOf b) k .childColumns

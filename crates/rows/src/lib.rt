@@ -17,7 +17,7 @@ ghost use Rattle.rules.specs.KeyValues.{keyValues, holdsKey};
 ghost use Rattle.rules.specs.Change;
 ghost use Rattle.bridge.specs.Ready.{rowIn};
 ghost use Rattle.rows.specs.Standing.{RowAt, RowsOf};
-ghost use Rattle.rows.specs.KeyColumns.{foldsIn, WholeKey, WholeParent, ParentColumns, KeyColumns};
+ghost use Rattle.rows.specs.KeyColumns.{foldsIn, WholeKey, PlainKey, PlainParent, ParentColumns, KeyColumns};
 ghost use Rattle.rows.specs.Sought.{soughtFolds, soughtColumns, soughtValues, comparedValues, hasValue, hasSought, SoughtIn, SoughtOf};
 use schema::SchemaAnswer;
 
@@ -308,12 +308,11 @@ pub fn folds_among(mask: usize, n: usize, cs: [usize; 8]) -> usize
     f
 }
 
-// Which of foreign key k's pairs are folded: those whose parent column is. The key is not broken and has n parent columns.
-fn key_folds(schema: &[u8], k: usize, n: usize, ps: [usize; 8]) -> usize
-    requires { ⌜ ParentColumns (now schema) k n ps ⌝ }
+// Which of foreign key k's n pairs are folded: those whose column of its parent table t is. The key is not broken.
+fn key_folds(schema: &[u8], k: usize, t: usize, n: usize, ps: [usize; 8]) -> usize
+    requires { ⌜ ParentColumns (now schema) k n ps × (keyOf (schemaOf (now schema)) k .parent ≡ t) ⌝ }
     ensures { λ x. ⌜ foldsIn n x ≡ keyOf (schemaOf (now (schema .entry))) k .folds ⌝ }
 {
-    let t = fields::parent(schema, k);
     let mask = fields::folded(schema, t);
     if mask == 0 {
         return 0;
@@ -321,15 +320,14 @@ fn key_folds(schema: &[u8], k: usize, n: usize, ps: [usize; 8]) -> usize
     folds_among(mask, n, ps)
 }
 
-// The column pairs of foreign key k, which is not broken.
-pub fn key_pairs(schema: &[u8], k: usize) -> KeyPairs
-    requires { ⌜ WholeKey (now schema) k ⌝ }
+// The column pairs of foreign key k, which is not broken and has n of them.
+pub fn pairs_of(schema: &[u8], k: usize, n: usize) -> KeyPairs
+    requires { ⌜ WholeKey (now schema) k × (n ≡ length (keyOf (schemaOf (now schema)) k .childColumns)) ⌝ }
     ensures { λ x. ⌜ KeyColumns (now (schema .entry)) k x ⌝ }
 {
-    let n = fields::width(schema, k);
     let cs = fields::child_columns(schema, k);
     let ps = fields::parent_columns(schema, k);
-    let folded = key_folds(schema, k, n, ps);
+    let folded = key_folds(schema, k, fields::parent(schema, k), n, ps);
     KeyPairs {
         n: n,
         folded: folded,
@@ -338,32 +336,47 @@ pub fn key_pairs(schema: &[u8], k: usize) -> KeyPairs
     }
 }
 
+// The column pairs of foreign key k, which is not broken and has no window.
+pub fn key_pairs(schema: &[u8], k: usize) -> KeyPairs
+    requires { ⌜ PlainKey (now schema) k ⌝ }
+    ensures { λ x. ⌜ KeyColumns (now (schema .entry)) k x ⌝ }
+{
+    pairs_of(schema, k, fields::width(schema, k))
+}
+
 // ---- what an action looks at
 
-// Whether column c of two images is equal, compared folded or not.
-fn same_cell(x: [i64; 9], y: [i64; 9], f: bool, c: usize) -> bool
-    requires { ⌜ c < 8 ⌝ }
-    ensures { λ r. ⌜ r ≡ Keys.sameCell f x y c c ⌝ }
+// Whether column c of one image and column d of another are equal, compared folded or not.
+pub fn same_cell(x: [i64; 9], y: [i64; 9], f: bool, c: usize, d: usize) -> bool
+    requires { ⌜ (c < 8) × (d < 8) ⌝ }
+    ensures { λ r. ⌜ r ≡ Keys.sameCell f x y c d ⌝ }
 {
     let u = folding::compared(f, x[c + 1]);
-    let v = folding::compared(f, y[c + 1]);
+    let v = folding::compared(f, y[d + 1]);
     if !words::same_word(u, v) {
         return false;
     }
     let first = words::nat_of(x[0]);
     let second = words::nat_of(y[0]);
-    !numbers::bit_of(c, first) & !numbers::bit_of(c, second)
+    !numbers::bit_of(c, first) & !numbers::bit_of(d, second)
 }
 
-// Whether the keys of two images in n columns are equal; the mask has the folded columns.
-fn same_key(x: [i64; 9], y: [i64; 9], mask: usize, n: usize, cs: [usize; 8]) -> bool
-    requires { ⌜ Columns 9 n cs ⌝ }
-    ensures { λ r. ⌜ r ≡ Keys.sameKey (foldsOf mask (take n cs)) (take n cs) (take n cs) x y ⌝ }
+// Whether the key of one image in n columns cs is that of another in n columns ds; bit i says whether those of place i are folded.
+pub fn same_key(
+    x: [i64; 9],
+    y: [i64; 9],
+    folded: usize,
+    n: usize,
+    cs: [usize; 8],
+    ds: [usize; 8],
+) -> bool
+    requires { ⌜ Columns 9 n cs × Columns 9 n ds ⌝ }
+    ensures { λ r. ⌜ r ≡ Keys.sameKey (foldsIn n folded) (take n cs) (take n ds) x y ⌝ }
 {
     let mut i = 0;
     while i < n {
-        let c = cs[i];
-        if !same_cell(x, y, numbers::bit_of(c, mask), c) {
+        let f = numbers::bit_of(i, folded);
+        if !same_cell(x, y, f, cs[i], ds[i]) {
             return false;
         }
         i += 1;
@@ -371,10 +384,10 @@ fn same_key(x: [i64; 9], y: [i64; 9], mask: usize, n: usize, cs: [usize; 8]) -> 
     true
 }
 
-// Whether an old parent key without NULL is not the new one, in a table with these folded columns. A deleted row has none.
-fn key_changes(old: [i64; 9], new: [i64; 9], mask: usize, n: usize, ps: [usize; 8]) -> bool
+// Whether an old parent key without NULL, folded where bit i says so, is not the new one. A deleted row has none.
+fn key_changes(old: [i64; 9], new: [i64; 9], folded: usize, n: usize, ps: [usize; 8]) -> bool
     requires { ⌜ Columns 9 n ps ⌝ }
-    ensures { λ x. ⌜ x ≡ Keys.fullKey (take n ps) old && not (Rows.live new && Keys.sameKey (foldsOf mask (take n ps)) (take n ps) (take n ps) new old) ⌝ }
+    ensures { λ x. ⌜ x ≡ Keys.fullKey (take n ps) old && not (Rows.live new && Keys.sameKey (foldsIn n folded) (take n ps) (take n ps) new old) ⌝ }
 {
     if !image_full_key(old, n, ps) {
         return false;
@@ -382,15 +395,17 @@ fn key_changes(old: [i64; 9], new: [i64; 9], mask: usize, n: usize, ps: [usize; 
     if !image_live(new) {
         return true;
     }
-    !same_key(new, old, mask, n, ps)
+    !same_key(new, old, folded, n, ps, ps)
 }
 
-// Whether actions of foreign key k, which is not broken, follow the change of a row of its parent table t from `old` to `new`.
+// Whether actions of foreign key k, which is not broken and has no window, follow the change of a row of its parent table t from
+// `old` to `new`.
 pub fn fires(schema: &[u8], t: usize, old: [i64; 9], new: [i64; 9], k: usize) -> bool
-    requires { ⌜ WholeParent (now schema) t k ⌝ }
+    requires { ⌜ PlainParent (now schema) t k ⌝ }
     ensures { λ x. ⌜ x ≡ Keys.fires new t old (keyOf (schemaOf (now (schema .entry))) k) ⌝ }
 {
     let n = fields::width(schema, k);
     let ps = fields::parent_columns(schema, k);
-    key_changes(old, new, fields::folded(schema, t), n, ps)
+    let folded = key_folds(schema, k, t, n, ps);
+    key_changes(old, new, folded, n, ps)
 }

@@ -128,17 +128,26 @@ module _ (p : Row → Bool) (a : List ℤ) (t : TableRows) where
       ∙ count-past k (j + 1) (omega (arith, l)) (λ i m n. h i (omega (arith, m)) (omega (arith, n)))
       ∙ ap (λ n. count p (drop n (rowsIn a t))) next
 
+  -- a search that passes over none that is counted
+  module _ {q : Row → Bool} (less : (row : Row) → q row ≡ false → p row ≡ false) where
+    pub count-searched : {from x : ℕ} → FirstRow q a t from x → count p (drop from (rowsIn a t)) ≡ count p (drop x (rowsIn a t))
+    count-searched {from} {x} f =
+        let whole : from + (x - from) ≡ x = omega (arith, f .low) in
+        count-past (x - from) from (omega (arith, whole, f .high)) (λ j l m. less _ (f .skipped j l (omega (arith, m, whole))))
+        ∙ ap (λ n. count p (drop n (rowsIn a t))) whole
+
+    -- a row, by whether it is one, and those from the next found on
+    pub count-turn : {j x : ℕ} → j < t .count → {b : Bool} → p (getD (rowsIn a t) j []) ≡ b → FirstRow q a t (j + 1) x → count p (drop j (rowsIn a t)) ≡ one b + count p (drop x (rowsIn a t))
+    count-turn {j} l {b} h f =
+        count-from j l ∙ ap (λ b. one b + count p (drop (j + 1) (rowsIn a t))) h ∙ ap (λ n. one b + n) (count-searched f)
+
   pub count-first : {from x : ℕ} → FirstRow p a t from x → count p (drop from (rowsIn a t)) ≡ count p (drop x (rowsIn a t))
-  count-first {from} {x} f =
-      let whole : from + (x - from) ≡ x = omega (arith, f .low) in
-      count-past (x - from) from (omega (arith, whole, f .high)) (λ j l m. f .skipped j l (omega (arith, m, whole)))
-      ∙ ap (λ n. count p (drop n (rowsIn a t))) whole
+  count-first f = count-searched (λ row h. h) f
 
   -- one that passes, and those from the next on
   pub count-next : {j x : ℕ} → j < t .count → p (getD (rowsIn a t) j []) ≡ true → FirstRow p a t (j + 1) x → count p (drop j (rowsIn a t)) ≡ 1 + count p (drop x (rowsIn a t))
   unfolding one
-  count-next {j} l h f =
-      count-from j l ∙ ap (λ b. one b + count p (drop (j + 1) (rowsIn a t))) h ∙ ap (λ n. 1 + n) (count-first f)
+  count-next l h f = count-turn (λ row h. h) l h f
 
   pub count-end : {j : ℕ} → t .count ≤ j → count p (drop j (rowsIn a t)) ≡ 0
   count-end {j} l = count-none p (rowsIn a t) j (omega (arith, many, l))

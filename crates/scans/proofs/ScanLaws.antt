@@ -9,9 +9,8 @@ use native.Mathlib.Nat.{mul-le-mul-right, add-mul}
 use lib.IntN.{ℤ}
 use lib.ListN.{length, take, drop, length-drop}
 use lib.Seq.{ext-getD, length-take-le, getD-take, getD-drop}
-use Rattle.rules.specs.Lists.{any, count}
+use Rattle.rules.specs.Lists.{any, count, except}
 use Rattle.rules.specs.Rows.{Row}
-use Rattle.moves.specs.Movement.{except}
 use Rattle.bridge.proofs.CountLaws.{any-append, count-append}
 use Rattle.bridge.specs.Ready.{rowIn}
 use Rattle.rows.specs.declared.SoughtKey.{SoughtKey}
@@ -65,7 +64,7 @@ module _ (a : List ℤ) (t : TableRows) (r : ℕ) (h : r < t .count) where
       ∙ row-get a t (suc r + j) (omega (arith, below))
       ∙ sym (getD-drop (suc r) (rowsIn a t) j []))
 
-  before-stands : Standing a t → Standing a (rowsBefore t r)
+  pub before-stands : Standing a t → Standing a (rowsBefore t r)
   unfolding rowsBefore
   before-stands s =
       record {
@@ -75,7 +74,7 @@ module _ (a : List ℤ) (t : TableRows) (r : ℕ) (h : r < t .count) where
         within = omega (arith, s .within, mul-le r (t .count) (t .width) (omega (arith, h)));
       }
 
-  after-stands : Standing a t → Standing a (rowsAfter t r)
+  pub after-stands : Standing a t → Standing a (rowsAfter t r)
   unfolding rowsAfter
   after-stands s =
       let all : suc r * t .width + (t .count - suc r) * t .width ≡ t .count * t .width = parts-all r (t .count) (t .width) h in

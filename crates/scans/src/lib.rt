@@ -2,7 +2,7 @@
 ghost use mathlib.Core.Path.{_≡_};
 ghost use Prim.Native.Nat.{suc, _+_, _*_, _≤_, _<_};
 ghost use Rattle.rules.specs.Lists;
-ghost use Rattle.moves.specs.Movement.{except};
+ghost use Rattle.rules.specs.Lists.{except};
 ghost use Rattle.bridge.specs.Ready.{rowIn};
 ghost use Rattle.rows.specs.Standing.{RowAt, Standing, rowsIn};
 ghost use Rattle.rows.specs.Sought.{hasValue, hasSought, SoughtIn};
@@ -174,7 +174,7 @@ pub fn count_with_key(area: &[i64], table: TableRows, key: SoughtKey) -> usize
 // ---- all rows but one
 
 // The rows of a table below row r.
-fn rows_before(table: TableRows, r: usize) -> TableRows
+pub fn rows_before(table: TableRows, r: usize) -> TableRows
     ensures { λ x. ⌜ x ≡ rowsBefore table r ⌝ }
 {
     TableRows {
@@ -185,7 +185,7 @@ fn rows_before(table: TableRows, r: usize) -> TableRows
 }
 
 // The rows of a table above row r.
-fn rows_after(area: &[i64], table: TableRows, r: usize) -> TableRows
+pub fn rows_after(area: &[i64], table: TableRows, r: usize) -> TableRows
     requires { ⌜ Standing (now area) table × (r < table .count) ⌝ }
     ensures { λ x. ⌜ x ≡ rowsAfter table r ⌝ }
 {

@@ -88,7 +88,20 @@ fn columns_rule(s: &[u8], at: usize, n: usize) -> bool
     distinct(s, at, n) & schema_tables::all_bytes(s, at, 255, n, 4)
 }
 
-// Child table, deferred, actions, column count and match of foreign key k are in their ranges.
+// Whether foreign key k, if windowed, has two columns or more and both actions below 2.
+fn windowed_rule(s: &[u8], k: usize) -> bool
+    requires { ⌜ (16 ≤ length (now s)) × (Fields.keyStart (now s) k + 16 ≤ length (now s)) ⌝ }
+    ensures { λ r. ⌜ r ≡ Check.windowedRule (now (s .entry)) k ⌝ }
+{
+    let at = numbers::key_start(s, k);
+    if numbers::byte_at(s, at + 15) == 0 {
+        return true;
+    }
+    (2 <= numbers::byte_at(s, at + 5))
+        & ((numbers::byte_at(s, at + 3) < 2) & (numbers::byte_at(s, at + 4) < 2))
+}
+
+// Child table, deferred, actions, column count, match and window of foreign key k are in their ranges.
 fn code_rules(s: &[u8], k: usize) -> bool
     requires { ⌜ (16 ≤ length (now s)) × (Fields.keyStart (now s) k + 16 ≤ length (now s)) ⌝ }
     ensures { λ r. ⌜ r ≡ Check.codeRules (now (s .entry)) k ⌝ }
@@ -101,6 +114,8 @@ fn code_rules(s: &[u8], k: usize) -> bool
         & action_rule(s[at + 4])
         & schema_tables::is_within(1, 4, numbers::byte_at(s, at + 5))
         & (numbers::byte_at(s, at + 14) <= 1)
+        & (numbers::byte_at(s, at + 15) <= 1)
+        & windowed_rule(s, k)
 }
 
 // The rules of foreign key record k that refusal 1 names.
@@ -115,10 +130,7 @@ fn key_rules(s: &[u8], k: usize) -> bool
     let child = numbers::byte_at(s, at);
     let n = numbers::byte_at(s, at + 5);
     let columns = numbers::byte_at(s, 16 + 80 * child + 2);
-    column_rules(s, at + 6, columns, n)
-        & columns_rule(s, at + 6, n)
-        & columns_rule(s, at + 10, n)
-        & schema_tables::is_byte(s, at, 0, 15)
+    column_rules(s, at + 6, columns, n) & columns_rule(s, at + 6, n) & columns_rule(s, at + 10, n)
 }
 
 // Whether the first n foreign key records break none of them.

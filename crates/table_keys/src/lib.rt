@@ -1,18 +1,20 @@
-// The foreign keys that touch a table, whole and broken ones apart, and whether a row change uses a broken one.
+// The foreign keys that touch a table, whole and broken ones apart, and those with a window; whether a row change uses a
+// broken one.
 ghost use mathlib.Core.Path.{_≡_};
-ghost use Prim.Native.Nat.{_<_};
-ghost use lib.Dec.{eqb};
+ghost use Prim.Native.Nat.{_^_, _<_};
 ghost use lib.ListN.{length};
 ghost use Rattle.schema.specs.Records.{keyOf};
 ghost use Rattle.schema.specs.Fields.{schemaOf};
 ghost use Rattle.schema.specs.Check.{checkSchema};
 ghost use Rattle.rules.specs.Lists;
-ghost use Rattle.table_keys.specs.Touched.{touches, wholeAt, brokenAt, brokenUsed, BrokenKeys, KeysOf};
+ghost use Rattle.table_keys.specs.Touched.{touches, withKey, brokenUsed, BrokenKeys, KeysOf};
 use schema::SchemaAnswer;
 
-// The foreign keys whose child or parent a table is, as masks of their numbers: those with a parent key, and the broken ones.
+// The foreign keys whose child or parent a table is, as masks of their numbers: those that are not broken, of these the ones
+// with a window, and the broken ones.
 pub struct TableKeys {
     pub whole: usize,
+    pub windowed: usize,
     pub broken: usize,
 }
 
@@ -26,18 +28,26 @@ fn touches(schema: &[u8], k: usize, t: usize) -> bool
     child == t || parent == t
 }
 
-// 0 where foreign key k does not touch table t, 1 where it does, 2 where it does and is broken.
-fn touch_of(schema: &[u8], k: usize, t: usize) -> usize
-    requires { ⌜ (checkSchema (now schema) ≡ SchemaAnswer.Accepted) × (k < length (schemaOf (now schema) .keys)) ⌝ }
-    ensures { λ x. ⌜ (eqb x 1 ≡ wholeAt t (keyOf (schemaOf (now (schema .entry))) k)) × (eqb x 2 ≡ brokenAt t (keyOf (schemaOf (now (schema .entry))) k)) ⌝ }
+// The keys that touch a table, with foreign key k put in, which touches it.
+fn with_key(schema: &[u8], keys: TableKeys, k: usize) -> TableKeys
+    requires { ⌜ ((checkSchema (now schema) ≡ SchemaAnswer.Accepted) × (k < length (schemaOf (now schema) .keys))) × ((keys .whole < 2 ^ k) × ((keys .windowed < 2 ^ k) × (keys .broken < 2 ^ k))) ⌝ }
+    ensures { λ x. ⌜ x ≡ withKey keys k (keyOf (schemaOf (now (schema .entry))) k) ⌝ }
 {
-    if !touches(schema, k, t) {
-        return 0;
-    }
+    let whole = keys.whole;
+    let windowed = keys.windowed;
+    let broken = keys.broken;
     if fields::is_broken(schema, k) {
-        return 2;
+        return TableKeys {
+            whole: whole,
+            windowed: windowed,
+            broken: numbers::marked(broken, k, true),
+        };
     }
-    1
+    TableKeys {
+        whole: numbers::marked(whole, k, true),
+        windowed: numbers::marked(windowed, k, fields::windows(schema, k) != 0),
+        broken: broken,
+    }
 }
 
 // The foreign keys that touch table t.
@@ -46,19 +56,19 @@ pub fn keys_of(schema: &[u8], t: usize) -> TableKeys
     ensures { λ x. ⌜ KeysOf (now (schema .entry)) t x ⌝ }
 {
     let n = fields::key_count(schema);
-    let mut whole = 0;
-    let mut broken = 0;
+    let mut keys = TableKeys {
+        whole: 0,
+        windowed: 0,
+        broken: 0,
+    };
     let mut k = 0;
     while k < n {
-        let touch = touch_of(schema, k, t);
-        whole = numbers::marked(whole, k, touch == 1);
-        broken = numbers::marked(broken, k, touch == 2);
+        if touches(schema, k, t) {
+            keys = with_key(schema, keys, k);
+        }
         k += 1;
     }
-    TableKeys {
-        whole: whole,
-        broken: broken,
-    }
+    keys
 }
 
 // Whether foreign key k is one of the broken ones, and the change of a row of table t uses it. The row lives after the

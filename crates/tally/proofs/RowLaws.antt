@@ -12,7 +12,7 @@ use lib.Seq.{take-all}
 use Rattle.schema.specs.Records.{ForeignKey, Schema, tableOf}
 use Rattle.schema.specs.Fields.{schemaOf}
 use Rattle.schema.proofs.SchemaLaws.{accepted-valid}
-use Rattle.rules.specs.Lists.{𝟘, any, count, one, padded, plus, less}
+use Rattle.rules.specs.Lists.{𝟘, any, count, one, padded, plus, less, except}
 use Rattle.rules.specs.Rows.{Row, Tables, rowAt, putRow, overwrite, image}
 use Rattle.rules.specs.Keys.{due, serves, orphan, orphans, counts}
 use Rattle.rules.specs.Book.{Work, write}
@@ -27,7 +27,7 @@ use Rattle.bridge.proofs.KeyLaws.{orphan-same, gives-same, get-padded}
 use Rattle.sums.specs.Small.{Small}
 use Rattle.sums.proofs.SumLaws.{length-less, length-plus}
 use Rattle.sums.proofs.KeptSmall.{kept-small, range-all, less-small}
-use Rattle.moves.specs.Movement.{pick, except, exceptIf, stranded, ownOrphan, strandedRows}
+use Rattle.moves.specs.Movement.{pick, exceptIf, unserved, stranded, ownOrphan, strandedRows}
 use Rattle.moves.specs.Tally.{ahead, Follows, Tallied, TalliedAt}
 use Rattle.moves.proofs.Moved.{moved-counted, stranded-after}
 use Rattle.moves.proofs.Telescope.{plus-zeros, less-zeros, less-turn, both-more}
@@ -53,7 +53,7 @@ module _ (x : Row) where
 
 module _ (x y : Row) (k : ForeignKey) (t r : ℕ) (tabs : Tables) where
   stranded-image : strandedRows k t r (padded 9 x) (padded 9 y) tabs ≡ strandedRows k t r x y tabs
-  unfolding strandedRows stranded
+  unfolding strandedRows stranded unserved
   stranded-image =
       λ i. pick (eqb (k .parent) t)
       (count (λ c. due k c && (gives-image x k c i && (not (gives-image y k c i) && not (any (serves k c) (except r (getD tabs (k .parent) []))))))

@@ -64,15 +64,30 @@ returns-5 c =
     let full = sym (c .before .before .before .not-null-broken .ensures) ∙ c .before .before .if4 .left in
     law.admits-unique sc (s .args .t) (s .args .r) (s .args .image) (workOf sc (s .args .area .now)) room none on full (sym (c .before .unique-broken .ensures) ∙ c .if5 .taken)
 
+windows-broken-requires : tie.Need-windows-broken-requires
+windows-broken-requires c κs = search needs
+
 returns-6 : tie.Need-returns-6
 returns-6 c =
-    let s = c .before .before .before .before .before .before .before .before .before .before .before in
+    let s = c .before .before .before .before .before .before .before .before .before .before .before .before .before in
     let sc = schemaOf (s .args .schema .now) in
-    let room = sym (c .before .before .before .before .before .before .before .before .before .is-full .ensures) ∙ c .before .before .before .before .before .before .before .before .if1 .left in
-    let none = sym (c .before .before .before .before .before .before .before .uses-broken .ensures) ∙ c .before .before .before .before .before .before .if2 .left in
-    let on = sym (c .before .before .before .before .before .image-live .ensures) ∙ not-false _ (c .before .before .before .before .if3 .left) in
-    let full = sym (c .before .before .before .not-null-broken .ensures) ∙ c .before .before .if4 .left in
-    law.admits-pass sc (s .args .t) (s .args .r) (s .args .image) (workOf sc (s .args .area .now)) room none on full (sym (c .before .unique-broken .ensures) ∙ c .if5 .left)
+    let room = sym (c .before .before .before .before .before .before .before .before .before .before .before .is-full .ensures) ∙ c .before .before .before .before .before .before .before .before .before .before .if1 .left in
+    let none = sym (c .before .before .before .before .before .before .before .before .before .uses-broken .ensures) ∙ c .before .before .before .before .before .before .before .before .if2 .left in
+    let on = sym (c .before .before .before .before .before .before .before .image-live .ensures) ∙ not-false _ (c .before .before .before .before .before .before .if3 .left) in
+    let full = sym (c .before .before .before .before .before .not-null-broken .ensures) ∙ c .before .before .before .before .if4 .left in
+    let apart = sym (c .before .before .before .unique-broken .ensures) ∙ c .before .before .if5 .left in
+    law.admits-window sc (s .args .t) (s .args .r) (s .args .image) (workOf sc (s .args .area .now)) room none on full apart (sym (c .before .windows-broken .ensures) ∙ c .if6 .taken)
+
+returns-7 : tie.Need-returns-7
+returns-7 c =
+    let s = c .before .before .before .before .before .before .before .before .before .before .before .before .before in
+    let sc = schemaOf (s .args .schema .now) in
+    let room = sym (c .before .before .before .before .before .before .before .before .before .before .before .is-full .ensures) ∙ c .before .before .before .before .before .before .before .before .before .before .if1 .left in
+    let none = sym (c .before .before .before .before .before .before .before .before .before .uses-broken .ensures) ∙ c .before .before .before .before .before .before .before .before .if2 .left in
+    let on = sym (c .before .before .before .before .before .before .before .image-live .ensures) ∙ not-false _ (c .before .before .before .before .before .before .if3 .left) in
+    let full = sym (c .before .before .before .before .before .not-null-broken .ensures) ∙ c .before .before .before .before .if4 .left in
+    let apart = sym (c .before .before .before .unique-broken .ensures) ∙ c .before .before .if5 .left in
+    law.admits-pass sc (s .args .t) (s .args .r) (s .args .image) (workOf sc (s .args .area .now)) room none on full apart (sym (c .before .windows-broken .ensures) ∙ c .if6 .left)
 
 pub admits-spec : {M : Type 1} → statement M
 admits-spec =
@@ -88,4 +103,6 @@ admits-spec =
     returns-4
     unique-broken-requires
     returns-5
-    returns-6)
+    windows-broken-requires
+    returns-6
+    returns-7)

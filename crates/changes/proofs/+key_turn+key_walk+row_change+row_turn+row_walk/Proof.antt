@@ -9,17 +9,20 @@ use lib.ListN.{length, drop}
 use Rattle.schema.specs.Fields.{schemaOf}
 use Rattle.schema.specs.Records.{tableOf, keyOf}
 use Rattle.schema.proofs.SchemaLaws.{accepted-valid}
+use Rattle.schema.proofs.FieldLaws.{read-windows, same-width}
 use Rattle.rules.specs.Lists.{upFrom}
 use Rattle.rules.specs.Rows.{image}
 use Rattle.rules.specs.Book.{Work}
 use Rattle.rules.specs.Change.{actions, change}
 use Rattle.rules.specs.KeyValues.{childrenByValues}
 use Rattle.bridge.specs.Fit.{workOf}
-use Rattle.table_keys.proofs.TouchLaws.{in-whole, not-whole}
+use Rattle.table_keys.proofs.TouchLaws.{is-whole, in-whole, not-whole, in-windowed, not-windowed}
 use Rattle.moves.specs.Tally.{Follows}
 use Rattle.moves.proofs.TallyLaws.{follows-refl, follows-trans, tallied-after}
+use Rattle.rows.specs.KeyColumns.{PlainKey}
 use Rattle.rows.specs.Sought.{soughtValues}
 use Rattle.change_parts.proofs.FollowerLaws.{rows-many, search-ready, found-first, table-there}
+use Rattle.change_parts.proofs.WindowTurns.{not-parent, old-full}
 use Rattle.changes.proofs.CycleLaws as law
 use borrow.Fn.Kinds.{In}
 use borrow.Fn.PlainCycle.{Measures, is, falls, and}
@@ -41,6 +44,7 @@ use Rattle.changes.proofs.+key_turn+key_walk+row_change+row_turn+row_wa
 use Rattle.change_parts.proofs.admits.Reads as admits-reads
 use Rattle.change_parts.proofs.child_after.Reads as child-after-reads
 use Rattle.change_parts.proofs.followers_of.Reads as followers-of-reads
+use Rattle.change_parts.proofs.window_turn.Reads as window-turn-reads
 use Rattle.fields.proofs.key_count.Reads as key-count-reads
 use Rattle.numbers.proofs.bit_of.Reads as bit-of-reads
 use Rattle.rows.proofs.fires.Reads as fires-reads
@@ -105,6 +109,8 @@ row-walk-below t =
 key-turn-bit-of-requires : (t : ℕ) → key-turn-lts.Need-bit-of-requires (
   bit-of-reads.Asked,
   bit-of-reads.Learnt,
+  window-turn-reads.Asked,
+  window-turn-reads.Learnt,
   parent-reads.Asked,
   parent-reads.Learnt,
   fires-reads.Asked,
@@ -119,6 +125,8 @@ key-turn-bit-of-requires t c κs = omega (arith, accepted-valid _ (c .before .pr
 key-turn-returns : (t : ℕ) → key-turn-lts.Need-returns (
   bit-of-reads.Asked,
   bit-of-reads.Learnt,
+  window-turn-reads.Asked,
+  window-turn-reads.Learnt,
   parent-reads.Asked,
   parent-reads.Learnt,
   fires-reads.Asked,
@@ -130,12 +138,14 @@ key-turn-returns : (t : ℕ) → key-turn-lts.Need-returns (
 ) (key-turn-at t) key-turn.Post
 key-turn-returns t c =
     let s = c .before .before .before in
-    let miss = not-whole (s .pre .1 .1 .0) (s .args .k) (s .pre .1 .1 .1) (c .before .bit-of .ensures) (c .if1 .taken) in
+    let miss = not-whole (s .pre .1 .1 .0 .whole) (s .args .k) (s .pre .1 .1 .1) (c .before .bit-of .ensures) (c .if1 .taken) in
     (law.key-off _ _ _ _ _ _ _ (law.not-whole-still _ _ _ _ miss), follows-refl (s .pre .1 .0 .ready .fit))
 
-key-turn-parent-requires : (t : ℕ) → key-turn-lts.Need-parent-requires (
+key-turn-bit-of-requires-2 : (t : ℕ) → key-turn-lts.Need-bit-of-requires-2 (
   bit-of-reads.Asked,
   bit-of-reads.Learnt,
+  window-turn-reads.Asked,
+  window-turn-reads.Learnt,
   parent-reads.Asked,
   parent-reads.Learnt,
   fires-reads.Asked,
@@ -145,11 +155,13 @@ key-turn-parent-requires : (t : ℕ) → key-turn-lts.Need-parent-requires (
   row-walk-below t,
   row-walk.Post,
 ) (key-turn-at t) key-turn.Post
-key-turn-parent-requires t c κs = search needs
+key-turn-bit-of-requires-2 t c κs = let s = c .before .before .before in omega (arith, accepted-valid _ (s .pre .1 .0 .ready .accepted) .few, s .pre .1 .1 .1)
 
-key-turn-returns-2 : (t : ℕ) → key-turn-lts.Need-returns-2 (
+key-turn-window-turn-requires : (t : ℕ) → key-turn-lts.Need-window-turn-requires (
   bit-of-reads.Asked,
   bit-of-reads.Learnt,
+  window-turn-reads.Asked,
+  window-turn-reads.Learnt,
   parent-reads.Asked,
   parent-reads.Learnt,
   fires-reads.Asked,
@@ -159,79 +171,21 @@ key-turn-returns-2 : (t : ℕ) → key-turn-lts.Need-returns-2 (
   row-walk-below t,
   row-walk.Post,
 ) (key-turn-at t) key-turn.Post
-key-turn-returns-2 t c =
-    let s = c .before .before .before .before .before in
-    (law.key-off _ _ _ _ _ _ _ (law.not-parent-still _ _ _ _ (λ e. c .if2 .taken (c .before .parent .ensures ∙ e))), follows-refl (s .pre .1 .0 .ready .fit))
-
-key-turn-fires-requires : (t : ℕ) → key-turn-lts.Need-fires-requires (
-  bit-of-reads.Asked,
-  bit-of-reads.Learnt,
-  parent-reads.Asked,
-  parent-reads.Learnt,
-  fires-reads.Asked,
-  fires-reads.Learnt,
-  followers-of-reads.Asked,
-  followers-of-reads.Learnt,
-  row-walk-below t,
-  row-walk.Post,
-) (key-turn-at t) key-turn.Post
-key-turn-fires-requires t c κs =
-    let s = c .before .before .before .before .before in
-    let whole = in-whole (s .pre .1 .1 .0) (s .args .k) (s .pre .1 .1 .1) (c .before .before .before .bit-of .ensures) (c .before .before .if1 .left) in
-    record {
-      whole-key = record { accepted = s .pre .1 .0 .ready .accepted; key = s .pre .1 .1 .1; whole = whole };
-      parent-is = sym (c .before .parent .ensures) ∙ c .if2 .left;
-    }
-
-key-turn-returns-3 : (t : ℕ) → key-turn-lts.Need-returns-3 (
-  bit-of-reads.Asked,
-  bit-of-reads.Learnt,
-  parent-reads.Asked,
-  parent-reads.Learnt,
-  fires-reads.Asked,
-  fires-reads.Learnt,
-  followers-of-reads.Asked,
-  followers-of-reads.Learnt,
-  row-walk-below t,
-  row-walk.Post,
-) (key-turn-at t) key-turn.Post
-key-turn-returns-3 t c = (law.key-off _ _ _ _ _ _ _ (sym (c .before .fires .ensures) ∙ not-true _ (c .if3 .taken)), follows-refl (c .before .before .before .before .before .before .before .pre .1 .0 .ready .fit))
-
-key-turn-followers-of-requires : (t : ℕ) → key-turn-lts.Need-followers-of-requires (
-  bit-of-reads.Asked,
-  bit-of-reads.Learnt,
-  parent-reads.Asked,
-  parent-reads.Learnt,
-  fires-reads.Asked,
-  fires-reads.Learnt,
-  followers-of-reads.Asked,
-  followers-of-reads.Learnt,
-  row-walk-below t,
-  row-walk.Post,
-) (key-turn-at t) key-turn.Post
-key-turn-followers-of-requires t c κs =
-    let s = c .before .before .before .before .before .before .before in
-    let sc = schemaOf (s .args .schema .now) in
-    let whole = in-whole (s .pre .1 .1 .0) (s .args .k) (s .pre .1 .1 .1) (c .before .before .before .before .before .bit-of .ensures) (c .before .before .before .before .if1 .left) in
-    (record { accepted = s .pre .1 .0 .ready .accepted; key = s .pre .1 .1 .1; whole = whole }, law.old-full (change 0 sc) sc _ _ _ _ (workOf sc (s .args .area .now)) (sym (c .before .fires .ensures) ∙ not-false _ (c .if3 .left)))
-
-key-turn-row-walk-requires : (t : ℕ) → key-turn-lts.Need-row-walk-requires (
-  bit-of-reads.Asked,
-  bit-of-reads.Learnt,
-  parent-reads.Asked,
-  parent-reads.Learnt,
-  fires-reads.Asked,
-  fires-reads.Learnt,
-  followers-of-reads.Asked,
-  followers-of-reads.Learnt,
-  row-walk-below t,
-  row-walk.Post,
-) (key-turn-at t) key-turn.Post
-key-turn-row-walk-requires t c κs = (search needs, (c .before .before .before .before .before .before .before .before .before .before .pre .1 .0, c .before .before .followers-of .ensures .0))
+key-turn-window-turn-requires t c κs =
+    let s = c .before .before .before .before .before .before in
+    let whole = in-whole (s .pre .1 .1 .0 .whole) (s .args .k) (s .pre .1 .1 .1) (c .before .before .before .before .bit-of .ensures) (c .before .before .before .if1 .left) in (
+      s .pre .1 .0 .ready,
+      record {
+        whole-key = record { accepted = s .pre .1 .0 .ready .accepted; key = s .pre .1 .1 .1; whole = whole };
+        windowed = in-windowed (s .pre .1 .1 .0 .windowed) (s .args .k) (s .pre .1 .1 .1) (c .before .before .bit-of2 .ensures) (c .before .if2 .taken);
+      },
+    )
 
 key-turn-same-length : (t : ℕ) → key-turn-lts.Need-same-length (
   bit-of-reads.Asked,
   bit-of-reads.Learnt,
+  window-turn-reads.Asked,
+  window-turn-reads.Learnt,
   parent-reads.Asked,
   parent-reads.Learnt,
   fires-reads.Asked,
@@ -243,9 +197,11 @@ key-turn-same-length : (t : ℕ) → key-turn-lts.Need-same-length (
 ) (key-turn-at t) key-turn.Post
 key-turn-same-length t c = search needs
 
-key-turn-returns-4 : (t : ℕ) → key-turn-lts.Need-returns-4 (
+key-turn-returns-2 : (t : ℕ) → key-turn-lts.Need-returns-2 (
   bit-of-reads.Asked,
   bit-of-reads.Learnt,
+  window-turn-reads.Asked,
+  window-turn-reads.Learnt,
   parent-reads.Asked,
   parent-reads.Learnt,
   fires-reads.Asked,
@@ -255,7 +211,173 @@ key-turn-returns-4 : (t : ℕ) → key-turn-lts.Need-returns-4 (
   row-walk-below t,
   row-walk.Post,
 ) (key-turn-at t) key-turn.Post
-key-turn-returns-4 t c = (c .before .row-walk .ensures .0 ∙ law.key-on _ _ _ _ _ _ _ (sym (c .before .before .before .before .before .before .fires .ensures) ∙ not-false _ (c .before .before .before .before .before .if3 .left)) (c .before .before .before .before .followers-of .ensures .1), c .before .row-walk .ensures .1)
+key-turn-returns-2 t c = (law.key-window _ _ _ _ _ _ _ (c .window-turn .ensures), follows-refl (c .before .before .before .before .before .before .before .pre .1 .0 .ready .fit))
+
+key-turn-parent-requires : (t : ℕ) → key-turn-lts.Need-parent-requires (
+  bit-of-reads.Asked,
+  bit-of-reads.Learnt,
+  window-turn-reads.Asked,
+  window-turn-reads.Learnt,
+  parent-reads.Asked,
+  parent-reads.Learnt,
+  fires-reads.Asked,
+  fires-reads.Learnt,
+  followers-of-reads.Asked,
+  followers-of-reads.Learnt,
+  row-walk-below t,
+  row-walk.Post,
+) (key-turn-at t) key-turn.Post
+key-turn-parent-requires t c κs = search needs
+
+key-turn-returns-3 : (t : ℕ) → key-turn-lts.Need-returns-3 (
+  bit-of-reads.Asked,
+  bit-of-reads.Learnt,
+  window-turn-reads.Asked,
+  window-turn-reads.Learnt,
+  parent-reads.Asked,
+  parent-reads.Learnt,
+  fires-reads.Asked,
+  fires-reads.Learnt,
+  followers-of-reads.Asked,
+  followers-of-reads.Learnt,
+  row-walk-below t,
+  row-walk.Post,
+) (key-turn-at t) key-turn.Post
+key-turn-returns-3 t c =
+    let s = c .before .before .before .before .before .before .before in
+    (law.key-off _ _ _ _ _ _ _ (not-parent _ _ _ _ (λ e. c .if3 .taken (c .before .parent .ensures ∙ e))), follows-refl (s .pre .1 .0 .ready .fit))
+
+-- a key of the whole ones that is not one of the windowed has no window
+plain-here : (t : ℕ) (c : key-turn-lts.Else2 (
+  bit-of-reads.Asked,
+  bit-of-reads.Learnt,
+  window-turn-reads.Asked,
+  window-turn-reads.Learnt,
+  parent-reads.Asked,
+  parent-reads.Learnt,
+  fires-reads.Asked,
+  fires-reads.Learnt,
+  followers-of-reads.Asked,
+  followers-of-reads.Learnt,
+  row-walk-below t,
+  row-walk.Post,
+) (key-turn-at t) key-turn.Post) → PlainKey (c .before .before .before .before .before .args .schema .now) (c .before .before .before .before .before .args .k)
+plain-here t c =
+    let s = c .before .before .before .before .before in
+    let first = c .before .before .before .bit-of .ensures in
+    let left = c .before .before .if1 .left in
+    let one = read-windows _ (s .pre .1 .0 .ready .accepted) (s .args .k) (s .pre .1 .1 .1) refl in
+    record {
+      whole-key = record { accepted = s .pre .1 .0 .ready .accepted; key = s .pre .1 .1 .1; whole = in-whole (s .pre .1 .1 .0 .whole) (s .args .k) (s .pre .1 .1 .1) first left };
+      plain = not-windowed (s .pre .1 .1 .0 .windowed) (s .args .k) (s .pre .1 .1 .1) (c .before .bit-of2 .ensures) (c .if2 .left) (is-whole (s .pre .1 .1 .0 .whole) (s .args .k) (s .pre .1 .1 .1) first left) (omega (arith, one .0, one .1));
+    }
+
+key-turn-fires-requires : (t : ℕ) → key-turn-lts.Need-fires-requires (
+  bit-of-reads.Asked,
+  bit-of-reads.Learnt,
+  window-turn-reads.Asked,
+  window-turn-reads.Learnt,
+  parent-reads.Asked,
+  parent-reads.Learnt,
+  fires-reads.Asked,
+  fires-reads.Learnt,
+  followers-of-reads.Asked,
+  followers-of-reads.Learnt,
+  row-walk-below t,
+  row-walk.Post,
+) (key-turn-at t) key-turn.Post
+key-turn-fires-requires t c κs = record { plain-key = plain-here t (c .before .before); parent-is = sym (c .before .parent .ensures) ∙ c .if3 .left }
+
+key-turn-returns-4 : (t : ℕ) → key-turn-lts.Need-returns-4 (
+  bit-of-reads.Asked,
+  bit-of-reads.Learnt,
+  window-turn-reads.Asked,
+  window-turn-reads.Learnt,
+  parent-reads.Asked,
+  parent-reads.Learnt,
+  fires-reads.Asked,
+  fires-reads.Learnt,
+  followers-of-reads.Asked,
+  followers-of-reads.Learnt,
+  row-walk-below t,
+  row-walk.Post,
+) (key-turn-at t) key-turn.Post
+key-turn-returns-4 t c = (law.key-off _ _ _ _ _ _ _ (sym (c .before .fires .ensures) ∙ not-true _ (c .if4 .taken)), follows-refl (c .before .before .before .before .before .before .before .before .before .pre .1 .0 .ready .fit))
+
+key-turn-followers-of-requires : (t : ℕ) → key-turn-lts.Need-followers-of-requires (
+  bit-of-reads.Asked,
+  bit-of-reads.Learnt,
+  window-turn-reads.Asked,
+  window-turn-reads.Learnt,
+  parent-reads.Asked,
+  parent-reads.Learnt,
+  fires-reads.Asked,
+  fires-reads.Learnt,
+  followers-of-reads.Asked,
+  followers-of-reads.Learnt,
+  row-walk-below t,
+  row-walk.Post,
+) (key-turn-at t) key-turn.Post
+key-turn-followers-of-requires t c κs = (plain-here t (c .before .before .before .before), old-full _ _ _ _ (sym (c .before .fires .ensures) ∙ not-false _ (c .if4 .left)))
+
+key-turn-row-walk-requires : (t : ℕ) → key-turn-lts.Need-row-walk-requires (
+  bit-of-reads.Asked,
+  bit-of-reads.Learnt,
+  window-turn-reads.Asked,
+  window-turn-reads.Learnt,
+  parent-reads.Asked,
+  parent-reads.Learnt,
+  fires-reads.Asked,
+  fires-reads.Learnt,
+  followers-of-reads.Asked,
+  followers-of-reads.Learnt,
+  row-walk-below t,
+  row-walk.Post,
+) (key-turn-at t) key-turn.Post
+key-turn-row-walk-requires t c κs =
+    let s = c .before .before .before .before .before .before .before .before .before .before .before .before in
+    let sc = schemaOf (s .args .schema .now) in
+    let plain = plain-here t (c .before .before .before .before .before .before .before) in
+    let on = sym (c .before .before .before .before .fires .ensures) ∙ not-false _ (c .before .before .before .if4 .left) in
+    let width = same-width _ (s .pre .1 .0 .ready .accepted) (s .args .k) (s .pre .1 .1 .1) in
+    (search needs, (s .pre .1 .0, (c .before .before .followers-of .ensures .0, law.unserved (change 0 sc) sc (s .args .new) (s .args .t) (s .args .old) (keyOf sc (s .args .k)) (workOf sc (s .args .area .now)) on (plain .plain) (sym width) (c .before .before .followers-of .ensures .1))))
+
+key-turn-same-length-2 : (t : ℕ) → key-turn-lts.Need-same-length-2 (
+  bit-of-reads.Asked,
+  bit-of-reads.Learnt,
+  window-turn-reads.Asked,
+  window-turn-reads.Learnt,
+  parent-reads.Asked,
+  parent-reads.Learnt,
+  fires-reads.Asked,
+  fires-reads.Learnt,
+  followers-of-reads.Asked,
+  followers-of-reads.Learnt,
+  row-walk-below t,
+  row-walk.Post,
+) (key-turn-at t) key-turn.Post
+key-turn-same-length-2 t c = search needs
+
+key-turn-returns-5 : (t : ℕ) → key-turn-lts.Need-returns-5 (
+  bit-of-reads.Asked,
+  bit-of-reads.Learnt,
+  window-turn-reads.Asked,
+  window-turn-reads.Learnt,
+  parent-reads.Asked,
+  parent-reads.Learnt,
+  fires-reads.Asked,
+  fires-reads.Learnt,
+  followers-of-reads.Asked,
+  followers-of-reads.Learnt,
+  row-walk-below t,
+  row-walk.Post,
+) (key-turn-at t) key-turn.Post
+key-turn-returns-5 t c =
+    let s = c .before .before .before .before .before .before .before .before .before .before .before .before .before .before in
+    let plain = plain-here t (c .before .before .before .before .before .before .before .before .before) in
+    let on = sym (c .before .before .before .before .before .before .fires .ensures) ∙ not-false _ (c .before .before .before .before .before .if4 .left) in
+    let width = same-width _ (s .pre .1 .0 .ready .accepted) (s .args .k) (s .pre .1 .1 .1) in
+    (c .before .row-walk .ensures .0 ∙ law.key-on _ _ _ _ _ _ _ on (plain .plain) (sym width) (c .before .before .before .before .followers-of .ensures .1), c .before .row-walk .ensures .1)
 
 abbrev key-walk-Inv-loop : key-walk-lts.InvT-loop
 key-walk-Inv-loop schema area₀ tally₀ whole t old new left n k₀ area tally k = (k ≤ n) × ((length area ≡ length area₀) × (Follows (schemaOf schema) tally₀ area₀ tally area × (actions (change left (schemaOf schema)) (schemaOf schema) new t old ((schemaOf schema) .keys) (workOf (schemaOf schema) area₀) ≡ actions (change left (schemaOf schema)) (schemaOf schema) new t old (drop k ((schemaOf schema) .keys)) (workOf (schemaOf schema) area))))
@@ -425,7 +547,7 @@ row-change-admits-requires : (t : ℕ) → row-change-lts.Need-admits-requires (
 ) (row-change-at t) row-change.Post
 row-change-admits-requires t c κs =
     let at = c .before .before .before .before .pre .1 in
-    (record { ready = at .tallied .ready; table = at .table; row = at .row }, c .before .keys-of .ensures .broken)
+    (record { ready = at .tallied .ready; table = at .table; row = at .row }, c .before .keys-of .ensures)
 
 row-change-enum-known-c : (t : ℕ) → row-change-lts.Need-enum-known-c (
   keys-of-reads.Asked,
@@ -466,7 +588,7 @@ row-change-write-tallied-requires t c κs =
     let if1 = c .before .before .before .before .before .before .before .if1 in
     let keys-of = c .before .before .before .before .before .before .keys-of in
     let admits = c .before .before .before .before .admits in
-    (s .pre .1, (keys-of .ensures .whole, law.change-room _ _ _ _ _ (s .args .left) (if1 .left) _ (admits .ensures) (c .before .before .enum-told .given .1)))
+    (s .pre .1, (keys-of .ensures, law.change-room _ _ _ _ _ (s .args .left) (if1 .left) _ (admits .ensures) (c .before .before .enum-told .given .1)))
 
 row-change-sub-key-walk : (t : ℕ) → row-change-lts.Need-sub-key-walk (
   keys-of-reads.Asked,
@@ -494,7 +616,7 @@ row-change-key-walk-requires t c κs =
     let write-tallied = c .before .before .before .write-tallied in
     let keys-of = c .before .before .before .before .before .before .before .before .before .before .keys-of in
     let s = c .before .before .before .before .before .before .before .before .before .before .before .before .before in
-    (omega (arith, s .pre .0, c .before .before .before .before .before .before .before .before .before .before .before .if1 .left), (tallied-after (s .pre .1 .tallied) (write-tallied .ensures .1 .1), keys-of .ensures .whole))
+    (omega (arith, s .pre .0, c .before .before .before .before .before .before .before .before .before .before .before .if1 .left), (tallied-after (s .pre .1 .tallied) (write-tallied .ensures .1 .1), keys-of .ensures))
 
 row-change-same-length : (t : ℕ) → row-change-lts.Need-same-length (
   keys-of-reads.Asked,
@@ -590,7 +712,7 @@ row-turn-child-after-requires : (t : ℕ) → row-turn-lts.Need-child-after-requ
   row-change-below t,
   row-change.Post,
 ) (row-turn-at t) row-turn.Post
-row-turn-child-after-requires t c κs = (law.at-placed (c .before .before .before .before .pre .1 .0), c .before .before .before .before .pre .1 .1)
+row-turn-child-after-requires t c κs = (law.at-placed (c .before .before .before .before .pre .1 .0), c .before .before .before .before .pre .1 .1 .0)
 
 row-turn-row-change-requires : (t : ℕ) → row-turn-lts.Need-row-change-requires (
   child-after-reads.Asked,
@@ -614,7 +736,7 @@ row-turn-child-after-requires-2 : (t : ℕ) → row-turn-lts.Need-child-after-re
   row-change-below t,
   row-change.Post,
 ) (row-turn-at t) row-turn.Post
-row-turn-child-after-requires-2 t c κs = (law.at-placed (c .before .before .before .before .pre .1 .0), c .before .before .before .before .pre .1 .1)
+row-turn-child-after-requires-2 t c κs = (law.at-placed (c .before .before .before .before .pre .1 .0), c .before .before .before .before .pre .1 .1 .0)
 
 row-turn-row-change-requires-2 : (t : ℕ) → row-turn-lts.Need-row-change-requires-2 (
   child-after-reads.Asked,
@@ -638,7 +760,7 @@ row-turn-child-after-requires-3 : (t : ℕ) → row-turn-lts.Need-child-after-re
   row-change-below t,
   row-change.Post,
 ) (row-turn-at t) row-turn.Post
-row-turn-child-after-requires-3 t c κs = (law.at-placed (c .before .before .before .before .pre .1 .0), c .before .before .before .before .pre .1 .1)
+row-turn-child-after-requires-3 t c κs = (law.at-placed (c .before .before .before .before .pre .1 .0), c .before .before .before .before .pre .1 .1 .0)
 
 row-turn-row-change-requires-3 : (t : ℕ) → row-turn-lts.Need-row-change-requires-3 (
   child-after-reads.Asked,
@@ -654,7 +776,7 @@ row-turn-returns : (t : ℕ) → row-turn-lts.Need-returns (
   row-change-below t,
   row-change.Post,
 ) (row-turn-at t) row-turn.Post
-row-turn-returns t c = (law.row-none _ _ _ _ _ _ _ _ (c .before .before .before .pre .1 .1 .action-is) (c .enum-told .given .1), follows-refl (c .before .before .before .pre .1 .0 .tallied .ready .fit))
+row-turn-returns t c = (law.row-none _ _ _ _ _ _ _ _ (c .before .before .before .pre .1 .1 .0 .action-is) (c .enum-told .given .1), follows-refl (c .before .before .before .pre .1 .0 .tallied .ready .fit))
 
 row-turn-returns-2 : (t : ℕ) → row-turn-lts.Need-returns-2 (
   child-after-reads.Asked,
@@ -662,7 +784,7 @@ row-turn-returns-2 : (t : ℕ) → row-turn-lts.Need-returns-2 (
   row-change-below t,
   row-change.Post,
 ) (row-turn-at t) row-turn.Post
-row-turn-returns-2 t c = (law.row-restrict _ _ _ _ _ _ _ _ (c .before .before .before .pre .1 .1 .action-is) (c .enum-told2 .given .1), follows-refl (c .before .before .before .pre .1 .0 .tallied .ready .fit))
+row-turn-returns-2 t c = (law.row-restrict _ _ _ _ _ _ _ _ (c .before .before .before .pre .1 .1 .0 .action-is) (c .enum-told2 .given .1) (c .before .before .before .pre .1 .1 .1), follows-refl (c .before .before .before .pre .1 .0 .tallied .ready .fit))
 
 row-turn-same-length : (t : ℕ) → row-turn-lts.Need-same-length (
   child-after-reads.Asked,
@@ -682,7 +804,7 @@ row-turn-returns-3 t c =
     let s = c .before .before .before .before .before .before .before .before .before in
     let a = s .args in
     let sc = schemaOf (a .schema .now) in
-    (c .before .row-change .ensures .0 ∙ law.row-null (change (a .left) sc) sc (a .new) (keyOf sc (a .k)) (a .j) (image (a .f .table) (a .j) (workOf sc (a .area .now) .tabs)) (workOf sc (a .area .now)) _ (s .pre .1 .1 .action-is) (a .f .table) (s .pre .1 .1 .table-is) _ (c .before .before .before .before .before .before .enum-told3 .given .1) (c .before .before .before .before .child-after .ensures), c .before .row-change .ensures .1)
+    (c .before .row-change .ensures .0 ∙ law.row-null (change (a .left) sc) sc (a .new) (keyOf sc (a .k)) (a .j) (image (a .f .table) (a .j) (workOf sc (a .area .now) .tabs)) (workOf sc (a .area .now)) _ (s .pre .1 .1 .0 .action-is) (a .f .table) (s .pre .1 .1 .0 .table-is) _ (c .before .before .before .before .before .before .enum-told3 .given .1) (c .before .before .before .before .child-after .ensures), c .before .row-change .ensures .1)
 
 row-turn-same-length-2 : (t : ℕ) → row-turn-lts.Need-same-length-2 (
   child-after-reads.Asked,
@@ -702,7 +824,7 @@ row-turn-returns-4 t c =
     let s = c .before .before .before .before .before .before .before .before .before in
     let a = s .args in
     let sc = schemaOf (a .schema .now) in
-    (c .before .row-change2 .ensures .0 ∙ law.row-default (change (a .left) sc) sc (a .new) (keyOf sc (a .k)) (a .j) (image (a .f .table) (a .j) (workOf sc (a .area .now) .tabs)) (workOf sc (a .area .now)) _ (s .pre .1 .1 .action-is) (a .f .table) (s .pre .1 .1 .table-is) _ (c .before .before .before .before .before .before .enum-told4 .given .1) (c .before .before .before .before .child-after2 .ensures), c .before .row-change2 .ensures .1)
+    (c .before .row-change2 .ensures .0 ∙ law.row-default (change (a .left) sc) sc (a .new) (keyOf sc (a .k)) (a .j) (image (a .f .table) (a .j) (workOf sc (a .area .now) .tabs)) (workOf sc (a .area .now)) _ (s .pre .1 .1 .0 .action-is) (a .f .table) (s .pre .1 .1 .0 .table-is) _ (c .before .before .before .before .before .before .enum-told4 .given .1) (c .before .before .before .before .child-after2 .ensures), c .before .row-change2 .ensures .1)
 
 row-turn-same-length-3 : (t : ℕ) → row-turn-lts.Need-same-length-3 (
   child-after-reads.Asked,
@@ -722,7 +844,7 @@ row-turn-returns-5 t c =
     let s = c .before .before .before .before .before .before .before .before .before in
     let a = s .args in
     let sc = schemaOf (a .schema .now) in
-    (c .before .row-change3 .ensures .0 ∙ law.row-cascade (change (a .left) sc) sc (a .new) (keyOf sc (a .k)) (a .j) (image (a .f .table) (a .j) (workOf sc (a .area .now) .tabs)) (workOf sc (a .area .now)) _ (s .pre .1 .1 .action-is) (a .f .table) (s .pre .1 .1 .table-is) _ (c .before .before .before .before .before .before .enum-told5 .given .1) (c .before .before .before .before .child-after3 .ensures), c .before .row-change3 .ensures .1)
+    (c .before .row-change3 .ensures .0 ∙ law.row-cascade (change (a .left) sc) sc (a .new) (keyOf sc (a .k)) (a .j) (image (a .f .table) (a .j) (workOf sc (a .area .now) .tabs)) (workOf sc (a .area .now)) _ (s .pre .1 .1 .0 .action-is) (a .f .table) (s .pre .1 .1 .0 .table-is) _ (c .before .before .before .before .before .before .enum-told5 .given .1) (c .before .before .before .before .child-after3 .ensures), c .before .row-change3 .ensures .1)
 
 abbrev row-walk-Inv-loop : row-walk-lts.InvT-loop
 row-walk-Inv-loop schema area₀ tally₀ k f new left rows key n j₀ area tally j = (j ≤ n) × ((length area ≡ length area₀) × (Follows (schemaOf schema) tally₀ area₀ tally area × (childrenByValues (change left (schemaOf schema)) (schemaOf schema) new (keyOf (schemaOf schema) k) (soughtValues (f .key)) (upFrom 0 (tableOf (schemaOf schema) (keyOf (schemaOf schema) k .child) .rows)) (workOf (schemaOf schema) area₀) ≡ childrenByValues (change left (schemaOf schema)) (schemaOf schema) new (keyOf (schemaOf schema) k) (soughtValues (f .key)) (upFrom j (n - j)) (workOf (schemaOf schema) area))))
@@ -740,7 +862,7 @@ row-walk-loop-holds t c =
     let s = c .before .before .before in
     let a = s .args in
     let sc = schemaOf (a .schema .now) in
-    let rn = rows-many (a .schema .now) (a .area .now) (s .pre .1 .0 .ready) (a .k) (a .new) (a .f) (s .pre .1 .1) in
+    let rn = rows-many (a .schema .now) (a .area .now) (s .pre .1 .0 .ready) (a .k) (a .new) (a .f) (s .pre .1 .1 .0) in
     (search needs, (refl, (follows-refl (s .pre .1 .0 .ready .fit), law.rows-start _ _ _ _ _ _ _ rn)))
 
 row-walk-first-with-key-requires : (t : ℕ) → row-walk-lts.Need-first-with-key-requires (
@@ -754,7 +876,7 @@ row-walk-first-with-key-requires t c κs =
     let a = s .args in
     let sc = schemaOf (a .schema .now) in
     let l = c .before .before .loop in
-    let ready = search-ready (a .schema .now) _ (tallied-after (s .pre .1 .0) (l .inv .1 .1 .0) .ready) (a .k) (a .new) (a .f) (s .pre .1 .1) in
+    let ready = search-ready (a .schema .now) _ (tallied-after (s .pre .1 .0) (l .inv .1 .1 .0) .ready) (a .k) (a .new) (a .f) (s .pre .1 .1 .0) in
     ((ready .0, l .inv .0), ready .1)
 
 row-walk-same-length : (t : ℕ) → row-walk-lts.Need-same-length (
@@ -776,7 +898,7 @@ row-walk-returns t c =
     let a = s .args in
     let sc = schemaOf (a .schema .now) in
     let l = c .before .before .before .before .loop in
-    let found = found-first (a .schema .now) _ (tallied-after (s .pre .1 .0) (l .inv .1 .1 .0) .ready) (a .k) (a .new) (a .f) (s .pre .1 .1) (c .before .first-with-key .ensures) in
+    let found = found-first (a .schema .now) _ (tallied-after (s .pre .1 .0) (l .inv .1 .1 .0) .ready) (a .k) (a .new) (a .f) (s .pre .1 .1 .0) (c .before .first-with-key .ensures) in
     (sym (l .inv .1 .1 .1 ∙ law.rows-past (change (a .left) sc) sc (a .new) (keyOf sc (a .k)) (soughtValues (a .f .key)) (a .f .rows .count) (l .j) (c .before .first-with-key .result) _ (found .low) (found .high) (c .if1 .taken) (found .skipped)), l .inv .1 .1 .0)
 
 row-walk-row-turn-requires : (t : ℕ) → row-walk-lts.Need-row-turn-requires (
@@ -792,7 +914,9 @@ row-walk-row-turn-requires t c κs =
     let l = c .before .before .before .before .before .before .loop in
     let lt : c .before .before .before .first-with-key .result < a .f .rows .count = omega (arith, c .before .before .if1 .left) in
     let set = tallied-after (s .pre .1 .0) (l .inv .1 .1 .0) in
-    (search needs, (record { tallied = set; table = table-there (a .schema .now) _ (set .ready) (a .k) (a .new) (a .f) (s .pre .1 .1); row = omega (arith, lt, s .pre .1 .1 .stand .count-is) }, s .pre .1 .1))
+    let found = found-first (a .schema .now) _ (set .ready) (a .k) (a .new) (a .f) (s .pre .1 .1 .0) (c .before .before .before .first-with-key .ensures) in
+    let unserved = law.row-unserved (keyOf sc (a .k)) (soughtValues (a .f .key)) (a .new) (s .pre .1 .1 .1) _ (c .before .before .before .first-with-key .result) (a .f .table) (s .pre .1 .1 .0 .table-is) (found .found lt) in
+    (search needs, (record { tallied = set; table = table-there (a .schema .now) _ (set .ready) (a .k) (a .new) (a .f) (s .pre .1 .1 .0); row = omega (arith, lt, s .pre .1 .1 .0 .stand .count-is) }, (s .pre .1 .1 .0, unserved)))
 
 row-walk-enum-told : (t : ℕ) → row-walk-lts.Need-enum-told (
   first-with-key-reads.Asked,
@@ -830,8 +954,8 @@ row-walk-returns-2 t c =
     let sc = schemaOf (a .schema .now) in
     let l = c .before .before .before .before .before .before .before .before .before .before .before .loop in
     let lt : c .before .before .before .before .before .before .before .before .first-with-key .result < a .f .rows .count = omega (arith, c .before .before .before .before .before .before .before .if1 .left) in
-    let found = found-first (a .schema .now) _ (tallied-after (s .pre .1 .0) (l .inv .1 .1 .0) .ready) (a .k) (a .new) (a .f) (s .pre .1 .1) (c .before .before .before .before .before .before .before .before .first-with-key .ensures) in
-    (sym (l .inv .1 .1 .1 ∙ law.rows-refused (change (a .left) sc) sc (a .new) (keyOf sc (a .k)) (soughtValues (a .f .key)) (a .f .rows .count) (l .j) (c .before .before .before .before .before .before .before .before .first-with-key .result) _ (found .low) lt (found .skipped) (found .found lt) (a .f .table) (s .pre .1 .1 .table-is) _ _ (c .before .before .before .before .row-turn .ensures .0) (c .before .c .given .1)), follows-trans (l .inv .1 .1 .0) (c .before .before .before .before .row-turn .ensures .1))
+    let found = found-first (a .schema .now) _ (tallied-after (s .pre .1 .0) (l .inv .1 .1 .0) .ready) (a .k) (a .new) (a .f) (s .pre .1 .1 .0) (c .before .before .before .before .before .before .before .before .first-with-key .ensures) in
+    (sym (l .inv .1 .1 .1 ∙ law.rows-refused (change (a .left) sc) sc (a .new) (keyOf sc (a .k)) (soughtValues (a .f .key)) (a .f .rows .count) (l .j) (c .before .before .before .before .before .before .before .before .first-with-key .result) _ (found .low) lt (found .skipped) (found .found lt) (a .f .table) (s .pre .1 .1 .0 .table-is) _ _ (c .before .before .before .before .row-turn .ensures .0) (c .before .c .given .1)), follows-trans (l .inv .1 .1 .0) (c .before .before .before .before .row-turn .ensures .1))
 
 row-walk-add-j : (t : ℕ) → row-walk-lts.Need-add-j (
   first-with-key-reads.Asked,
@@ -845,7 +969,7 @@ row-walk-add-j t c =
     let sc = schemaOf (a .schema .now) in
     let l = c .before .before .before .before .before .before .before .before .before .before .loop in
     let lt : c .before .before .before .before .before .before .before .first-with-key .result < a .f .rows .count = omega (arith, c .before .before .before .before .before .before .if1 .left) in
-    let ready = search-ready (a .schema .now) _ (tallied-after (s .pre .1 .0) (l .inv .1 .1 .0) .ready) (a .k) (a .new) (a .f) (s .pre .1 .1) in
+    let ready = search-ready (a .schema .now) _ (tallied-after (s .pre .1 .0) (l .inv .1 .1 .0) .ready) (a .k) (a .new) (a .f) (s .pre .1 .1 .0) in
     omega (arith, lt, ready .0 .few)
 
 row-walk-loop-less : (t : ℕ) → row-walk-lts.Need-loop-less (
@@ -868,8 +992,8 @@ row-walk-loop-again t c =
     let sc = schemaOf (a .schema .now) in
     let l = c .before .before .before .before .before .before .before .before .before .before .loop in
     let lt : c .before .before .before .before .before .before .before .first-with-key .result < a .f .rows .count = omega (arith, c .before .before .before .before .before .before .if1 .left) in
-    let found = found-first (a .schema .now) _ (tallied-after (s .pre .1 .0) (l .inv .1 .1 .0) .ready) (a .k) (a .new) (a .f) (s .pre .1 .1) (c .before .before .before .before .before .before .before .first-with-key .ensures) in
-    (omega (arith, lt), (search needs, (follows-trans (l .inv .1 .1 .0) (c .before .before .before .row-turn .ensures .1), l .inv .1 .1 .1 ∙ law.rows-done (change (a .left) sc) sc (a .new) (keyOf sc (a .k)) (soughtValues (a .f .key)) (a .f .rows .count) (l .j) (c .before .before .before .before .before .before .before .first-with-key .result) _ (found .low) lt (found .skipped) (found .found lt) (a .f .table) (s .pre .1 .1 .table-is) _ _ (c .before .before .before .row-turn .ensures .0) (c .enum-told .given .1))))
+    let found = found-first (a .schema .now) _ (tallied-after (s .pre .1 .0) (l .inv .1 .1 .0) .ready) (a .k) (a .new) (a .f) (s .pre .1 .1 .0) (c .before .before .before .before .before .before .before .first-with-key .ensures) in
+    (omega (arith, lt), (search needs, (follows-trans (l .inv .1 .1 .0) (c .before .before .before .row-turn .ensures .1), l .inv .1 .1 .1 ∙ law.rows-done (change (a .left) sc) sc (a .new) (keyOf sc (a .k)) (soughtValues (a .f .key)) (a .f .rows .count) (l .j) (c .before .before .before .before .before .before .before .first-with-key .result) _ (found .low) lt (found .skipped) (found .found lt) (a .f .table) (s .pre .1 .1 .0 .table-is) _ _ (c .before .before .before .row-turn .ensures .0) (c .enum-told .given .1))))
 
 row-walk-same-length-3 : (t : ℕ) → row-walk-lts.Need-same-length-3 (
   first-with-key-reads.Asked,
@@ -892,6 +1016,8 @@ pub +key-turn+key-walk+row-change+row-turn+row-walk-spec : {M : Type 1} → stat
     close μ-key-turn μ-key-walk μ-row-change μ-row-turn μ-row-walk (λ t. key-turn-lts.spec (
       bit-of-reads.Asked,
       bit-of-reads.Learnt,
+      window-turn-reads.Asked,
+      window-turn-reads.Learnt,
       parent-reads.Asked,
       parent-reads.Learnt,
       fires-reads.Asked,
@@ -905,14 +1031,18 @@ pub +key-turn+key-walk+row-change+row-turn+row-walk-spec : {M : Type 1} → stat
     key-turn.Post
     (key-turn-bit-of-requires t)
     (key-turn-returns t)
-    (key-turn-parent-requires t)
+    (key-turn-bit-of-requires-2 t)
+    (key-turn-window-turn-requires t)
+    (key-turn-same-length t)
     (key-turn-returns-2 t)
-    (key-turn-fires-requires t)
+    (key-turn-parent-requires t)
     (key-turn-returns-3 t)
+    (key-turn-fires-requires t)
+    (key-turn-returns-4 t)
     (key-turn-followers-of-requires t)
     (key-turn-row-walk-requires t)
-    (key-turn-same-length t)
-    (key-turn-returns-4 t))
+    (key-turn-same-length-2 t)
+    (key-turn-returns-5 t))
     (λ t. key-walk-lts.spec (
       key-count-reads.Asked,
       key-count-reads.Learnt,

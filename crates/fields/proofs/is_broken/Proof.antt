@@ -1,24 +1,29 @@
 use mathlib.Core.Path.{_≡_, refl, sym, ap, _∙_}
-use mathlib.Core.List.{List}
-use mathlib.Core.Bool.{not}
+use mathlib.Core.Bool.{Bool, not, _&&_}
 use Prim.Native.Nat.{ℕ, _<_}
 use native.Mathlib.Omega.{arith}
-use borrow.Author.Needs.{needs}
+use borrow.Author.Tests.{not-true, not-false}
 use lib.Dec.{eqb}
-use lib.ListN.{length}
-use Rattle.schema.specs.declared.SchemaAnswer.the-variants.{Accepted}
-use Rattle.schema.specs.Records.{keyOf}
-use Rattle.schema.specs.Check.{checkSchema}
 use Rattle.schema.specs.Ranges.{anyFrom}
 use Rattle.schema.specs.Fields
-use Rattle.schema.specs.Fields.{schemaOf}
 use Rattle.schema.proofs.SchemaLaws.{tables-are}
-use Rattle.schema.proofs.FieldLaws.{read-parent, broken-table, broken-mask, parent-ones}
+use Rattle.schema.proofs.FieldLaws.{read-parent, broken-table, broken-mask, parent-mask-is, parent-ones}
+use borrow.Author.Needs.{needs}
 use Rattle.fields.proofs.is_broken.Statement.{statement}
 use Rattle.fields.proofs.is_broken.Tie as tie
 
-parent-here : (bs : List ℕ) → checkSchema bs ≡ Accepted → (k : ℕ) → k < length (schemaOf bs .keys) → {r : ℕ} → r ≡ keyOf (schemaOf bs) k .parent → r ≡ Fields.parentOf bs k
-parent-here bs acc k h e = e ∙ sym (read-parent bs acc k h refl)
+parent-here : (c : tie.After-parent) → c .parent .result ≡ Fields.parentOf (c .before .before .args .bytes .now) (c .before .before .args .k)
+parent-here c = let s = c .before .before in c .parent .ensures ∙ sym (read-parent _ (s .pre .0) _ (s .pre .1) refl)
+
+-- the parent table is there
+there-here : (c : tie.Else1) → Fields.parentOf (c .before .before .before .before .args .bytes .now) (c .before .before .before .before .args .k) < Fields.tableCount (c .before .before .before .before .args .bytes .now)
+there-here c = omega (arith, c .if1 .left, c .before .table-count .ensures .0, tables-are (c .before .before .before .before .args .bytes .now), parent-here (c .before .before))
+
+-- its unique keys were compared with the mask
+unique-here : (c : tie.After-has-unique) → c .has-unique .result ≡ anyFrom (λ i. eqb (Fields.uniqueOf (c .before .before .before .before .before .before .before .args .bytes .now) (Fields.parentOf (c .before .before .before .before .before .before .before .args .bytes .now) (c .before .before .before .before .before .before .before .args .k)) i) (c .before .parent-mask .result)) 4 0
+unique-here c =
+    let s = c .before .before .before .before .before .before .before in
+    c .has-unique .ensures ∙ ap (λ (t : ℕ). anyFrom (λ i. eqb (Fields.uniqueOf (s .args .bytes .now) t i) (c .before .parent-mask .result)) 4 0) (parent-here (c .before .before .before .before .before))
 
 parent-requires : tie.Need-parent-requires
 parent-requires c κs = search needs
@@ -29,8 +34,7 @@ table-count-requires c κs = search needs
 returns : tie.Need-returns
 returns c =
     let s = c .before .before .before .before in
-    let t = parent-here (s .args .bytes .now) (s .pre .0) (s .args .k) (s .pre .1) (c .before .before .parent .ensures) in
-    broken-table _ (s .pre .0) _ (s .pre .1) (omega (arith, c .if1 .taken, c .before .table-count .ensures .0, tables-are (s .args .bytes .now), t))
+    broken-table _ (s .pre .0) _ (s .pre .1) (omega (arith, c .if1 .taken, c .before .table-count .ensures .0, tables-are (s .args .bytes .now), parent-here (c .before .before)))
 
 width-requires : tie.Need-width-requires
 width-requires c κs = search needs
@@ -46,11 +50,22 @@ has-unique-requires c κs =
 
 returns-2 : tie.Need-returns-2
 returns-2 c =
-    let s = c .before .before .before .before .before .before .before in
-    let t = parent-here (s .args .bytes .now) (s .pre .0) (s .args .k) (s .pre .1) (c .before .before .before .before .before .parent .ensures) in
-    let l : Fields.parentOf (s .args .bytes .now) (s .args .k) < Fields.tableCount (s .args .bytes .now) = omega (arith, c .before .before .before .if1 .left, c .before .before .before .before .table-count .ensures .0, tables-are (s .args .bytes .now), t) in
-    ap not (c .has-unique .ensures ∙ ap (λ (x : ℕ). anyFrom (λ i. eqb (Fields.uniqueOf (s .args .bytes .now) x i) (c .before .parent-mask .result)) 4 0) t)
-    ∙ broken-mask _ (s .pre .0) _ (s .pre .1) (c .before .parent-mask .result) l (c .before .parent-mask .ensures)
+    let s = c .before .before .before .before .before .before .before .before in
+    ap (λ (a : Bool). not (a && Fields.hasEnd (s .args .bytes .now) (s .args .k))) (sym (not-true _ (c .if2 .taken)) ∙ unique-here (c .before))
+    ∙ broken-mask _ (s .pre .0) _ (s .pre .1) (c .before .before .parent-mask .result) (there-here (c .before .before .before .before)) (c .before .before .parent-mask .ensures)
+
+has-end-requires : tie.Need-has-end-requires
+has-end-requires c κs =
+    let s = c .before .before .before .before .before .before .before .before in
+    let mask = parent-mask-is _ (s .pre .0) _ (s .pre .1) (c .before .before .parent-mask .result) (there-here (c .before .before .before .before)) (c .before .before .parent-mask .ensures) (sym (unique-here (c .before)) ∙ not-false _ (c .if2 .left)) in
+    ((s .pre .0, s .pre .1), ((omega (arith, c .before .before .before .before .if1 .left, c .before .before .before .before .before .table-count .ensures .0), parent-here (c .before .before .before .before .before .before)), (c .before .before .before .width .ensures .0, mask)))
+
+returns-3 : tie.Need-returns-3
+returns-3 c =
+    let s = c .before .before .before .before .before .before .before .before .before in
+    ap not (c .has-end .ensures)
+    ∙ ap (λ (a : Bool). not (a && Fields.hasEnd (s .args .bytes .now) (s .args .k))) (sym (not-false _ (c .before .if2 .left)) ∙ unique-here (c .before .before))
+    ∙ broken-mask _ (s .pre .0) _ (s .pre .1) (c .before .before .before .parent-mask .result) (there-here (c .before .before .before .before .before)) (c .before .before .before .parent-mask .ensures)
 
 pub is-broken-spec : {M : Type 1} → statement M
 is-broken-spec =
@@ -62,4 +77,6 @@ is-broken-spec =
     width-requires
     parent-mask-requires
     has-unique-requires
-    returns-2)
+    returns-2
+    has-end-requires
+    returns-3)

@@ -20,18 +20,23 @@ rows-of-requires-2 c κs =
     let s = c .before .before .before .before in
     (s .pre .accepted, rw (c .parent .ensures) (parent-table (s .args .schema .now) (s .args .k) (s .pre)))
 
-key-pairs-requires : tie.Need-key-pairs-requires
-key-pairs-requires c κs = search needs
+windows-requires : tie.Need-windows-requires
+windows-requires c κs = search needs
+
+key-columns-requires : tie.Need-key-columns-requires
+key-columns-requires c κs = (c .before .before .before .before .before .before .pre, c .windows .ensures)
 
 returns : tie.Need-returns
 returns c =
-    let b = c .before .before .before .before .before .before .args .schema .now in
-    let child = c .before .before .before .before .child in
-    let children = c .before .before .before .rows-of in
-    let parent = c .before .before .parent in
-    let parents = c .before .rows-of2 in
+    let s = c .before .before .before .before .before .before .before in
+    let b = s .args .schema .now in
+    let child = c .before .before .before .before .before .child in
+    let children = c .before .before .before .before .rows-of in
+    let parent = c .before .before .before .parent in
+    let parents = c .before .before .rows-of2 in
     record {
-      columns = c .key-pairs .ensures;
+      whole-key = s .pre;
+      columns = c .key-columns .ensures;
       children = subst (λ (t : ℕ). RowsOf b t (children .result)) (child .ensures .0) (children .ensures);
       parents = subst (λ (t : ℕ). RowsOf b t (parents .result)) (parent .ensures) (parents .ensures);
     }
@@ -44,5 +49,6 @@ key-rows-spec =
     rows-of-requires
     parent-requires
     rows-of-requires-2
-    key-pairs-requires
+    windows-requires
+    key-columns-requires
     returns)

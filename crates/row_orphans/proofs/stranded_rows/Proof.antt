@@ -19,7 +19,7 @@ returns c =
     let a = s .args in
     let k = keyOf (schemaOf (a .schema .now)) (a .k) in
     let tabs = workOf (schemaOf (a .schema .now)) (a .area .now) .tabs in
-    let same = same-width (a .schema .now) (s .pre .0 .ready .accepted) (a .k) (s .pre .1 .0) in
+    let same = same-width (a .schema .now) (s .pre .0 .ready .accepted) (a .k) (s .pre .1 .whole-key .key) in
     (none-other k same (a .t) (a .r) (a .x) (a .y) tabs (λ e. c .if1 .taken (c .before .parent .ensures ∙ e)), omega arith)
 
 fires-requires : tie.Need-fires-requires
@@ -31,7 +31,7 @@ returns-2 c =
     let a = s .args in
     let k = keyOf (schemaOf (a .schema .now)) (a .k) in
     let tabs = workOf (schemaOf (a .schema .now)) (a .area .now) .tabs in
-    let same = same-width (a .schema .now) (s .pre .0 .ready .accepted) (a .k) (s .pre .1 .0) in
+    let same = same-width (a .schema .now) (s .pre .0 .ready .accepted) (a .k) (s .pre .1 .whole-key .key) in
     (none-fires k same (a .t) (a .r) (a .x) (a .y) tabs (sym (c .before .fires .ensures) ∙ not-true _ (c .if2 .taken)), omega arith)
 
 key-pairs-requires : tie.Need-key-pairs-requires
@@ -43,7 +43,7 @@ taken-rows-requires c κs =
     let a = s .args in
     let on = sym (c .before .before .fires .ensures) ∙ not-false _ (c .before .if2 .left) in
     let pairs = c .key-pairs .ensures in
-    ((s .pre .0, pairs), fires-full _ (a .t) (a .x) (a .y) (pairs .columns .parents .parent-is) on)
+    ((s .pre .0, (pairs, s .pre .1)), fires-full _ (s .pre .1 .plain) (a .t) (a .x) (a .y) (pairs .columns .parents .parent-is) on)
 
 returns-3 : tie.Need-returns-3
 returns-3 c =
@@ -51,8 +51,8 @@ returns-3 c =
     let a = s .args in
     let k = keyOf (schemaOf (a .schema .now)) (a .k) in
     let tabs = workOf (schemaOf (a .schema .now)) (a .area .now) .tabs in
-    let same = same-width (a .schema .now) (s .pre .0 .ready .accepted) (a .k) (s .pre .1 .0) in
-    (none-taken k same (a .t) (a .r) (a .x) (a .y) tabs (sym (c .before .taken-rows .ensures .0) ∙ c .if3 .taken), omega arith)
+    let same = same-width (a .schema .now) (s .pre .0 .ready .accepted) (a .k) (s .pre .1 .whole-key .key) in
+    (none-taken k same (a .t) (a .r) (a .x) (a .y) tabs (s .pre .1 .plain) (sym (c .before .taken-rows .ensures .0) ∙ c .if3 .taken), omega arith)
 
 has-twin-requires : tie.Need-has-twin-requires
 has-twin-requires c κs =
@@ -60,7 +60,7 @@ has-twin-requires c κs =
     let a = s .args in
     let on = sym (c .before .before .before .before .fires .ensures) ∙ not-false _ (c .before .before .before .if2 .left) in
     let pairs = c .before .before .key-pairs .ensures in
-    ((s .pre .0, pairs), (sym (c .before .before .before .before .before .before .parent .ensures) ∙ c .before .before .before .before .before .if1 .left, fires-full _ (a .t) (a .x) (a .y) (pairs .columns .parents .parent-is) on))
+    ((s .pre .0, (pairs, s .pre .1)), (sym (c .before .before .before .before .before .before .parent .ensures) ∙ c .before .before .before .before .before .if1 .left, fires-full _ (s .pre .1 .plain) (a .t) (a .x) (a .y) (pairs .columns .parents .parent-is) on))
 
 returns-4 : tie.Need-returns-4
 returns-4 c =
@@ -68,8 +68,8 @@ returns-4 c =
     let a = s .args in
     let k = keyOf (schemaOf (a .schema .now)) (a .k) in
     let tabs = workOf (schemaOf (a .schema .now)) (a .area .now) .tabs in
-    let same = same-width (a .schema .now) (s .pre .0 .ready .accepted) (a .k) (s .pre .1 .0) in
-    (twin-serves k same (a .t) (a .r) (a .x) (a .y) tabs (sym (c .before .has-twin .ensures) ∙ c .if4 .taken), omega arith)
+    let same = same-width (a .schema .now) (s .pre .0 .ready .accepted) (a .k) (s .pre .1 .whole-key .key) in
+    (twin-serves k same (a .t) (a .r) (a .x) (a .y) tabs (s .pre .1 .plain) (sym (c .before .has-twin .ensures) ∙ c .if4 .taken), omega arith)
 
 returns-5 : tie.Need-returns-5
 returns-5 c =
@@ -77,10 +77,10 @@ returns-5 c =
     let a = s .args in
     let k = keyOf (schemaOf (a .schema .now)) (a .k) in
     let tabs = workOf (schemaOf (a .schema .now)) (a .area .now) .tabs in
-    let same = same-width (a .schema .now) (s .pre .0 .ready .accepted) (a .k) (s .pre .1 .0) in
+    let same = same-width (a .schema .now) (s .pre .0 .ready .accepted) (a .k) (s .pre .1 .whole-key .key) in
     let on = sym (c .before .before .before .before .before .before .fires .ensures) ∙ not-false _ (c .before .before .before .before .before .if2 .left) in
     let m = c .before .before .before .taken-rows .ensures in
-    (m .0 ∙ all-stranded k same (a .t) (a .r) (a .x) (a .y) tabs on (sym (c .before .has-twin .ensures) ∙ c .if4 .left), m .1)
+    (m .0 ∙ all-stranded k same (a .t) (a .r) (a .x) (a .y) tabs (s .pre .1 .plain) on (sym (c .before .has-twin .ensures) ∙ c .if4 .left), m .1)
 
 pub stranded-rows-spec : {M : Type 1} → statement M
 stranded-rows-spec =

@@ -14,7 +14,7 @@ rows-of-requires c κs = search needs
 sought-key-requires : tie.Need-sought-key-requires
 sought-key-requires c κs =
     let s = c .before .before .before .before .before in
-    (parent-wide _ _ _ _ (s .pre .0 .1 .columns .parents), s .pre .1)
+    (parent-wide _ _ _ _ (s .pre .0 .1 .0 .columns .parents), s .pre .1)
 
 count-others-with-key-requires : tie.Need-count-others-with-key-requires
 count-others-with-key-requires c κs =
@@ -22,7 +22,7 @@ count-others-with-key-requires c κs =
     let rows-of = c .before .before .before .before .rows-of in
     let s = c .before .before .before .before .before .before .before in
     let a = s .args in
-    ((children-stand (a .schema .now) (a .area .now) (a .k) (a .t) (a .r) (a .pairs) (s .pre .0 .0) (s .pre .0 .1) (child .ensures .0) (rows-of .result) (rows-of .ensures), row-below (a .schema .now) (a .area .now) (a .k) (a .t) (a .r) (a .pairs) (s .pre .0 .0) (s .pre .0 .1) (child .ensures .0) (rows-of .result) (rows-of .ensures) (c .if1 .taken)), children-sought (a .schema .now) (a .area .now) (a .k) (a .t) (a .r) (a .pairs) (s .pre .0 .0) (s .pre .0 .1) (child .ensures .0) (rows-of .result) (rows-of .ensures) (c .before .sought-key .ensures))
+    ((children-stand (a .schema .now) (a .area .now) (a .k) (a .t) (a .r) (a .pairs) (s .pre .0 .0) (s .pre .0 .1 .0) (s .pre .0 .1 .1) (child .ensures .0) (rows-of .result) (rows-of .ensures), row-below (a .schema .now) (a .area .now) (a .k) (a .t) (a .r) (a .pairs) (s .pre .0 .0) (s .pre .0 .1 .0) (s .pre .0 .1 .1) (child .ensures .0) (rows-of .result) (rows-of .ensures) (c .if1 .taken)), children-sought (a .schema .now) (a .area .now) (a .k) (a .t) (a .r) (a .pairs) (s .pre .0 .0) (s .pre .0 .1 .0) (s .pre .0 .1 .1) (child .ensures .0) (rows-of .result) (rows-of .ensures) (c .before .sought-key .ensures))
 
 returns : tie.Need-returns
 returns c =
@@ -31,7 +31,7 @@ returns c =
     let s = c .before .before .before .before .before .before .before .before in
     let a = s .args in
     let m = c .count-others-with-key .ensures in
-    (m .0 ∙ taken-others (a .schema .now) (a .area .now) (a .k) (a .t) (a .r) (a .pairs) (s .pre .0 .0) (s .pre .0 .1) (child .ensures .0) (rows-of .result) (rows-of .ensures) (c .before .if1 .taken) (a .image) (c .before .before .sought-key .ensures), children-few (a .schema .now) (a .area .now) (a .k) (a .t) (a .r) (a .pairs) (s .pre .0 .0) (s .pre .0 .1) (child .ensures .0) (rows-of .result) (rows-of .ensures) (m .1))
+    (m .0 ∙ taken-others (a .schema .now) (a .area .now) (a .k) (a .t) (a .r) (a .pairs) (s .pre .0 .0) (s .pre .0 .1 .0) (s .pre .0 .1 .1) (child .ensures .0) (rows-of .result) (rows-of .ensures) (c .before .if1 .taken) (a .image) (c .before .before .sought-key .ensures), children-few (a .schema .now) (a .area .now) (a .k) (a .t) (a .r) (a .pairs) (s .pre .0 .0) (s .pre .0 .1 .0) (s .pre .0 .1 .1) (child .ensures .0) (rows-of .result) (rows-of .ensures) (m .1))
 
 count-with-key-requires : tie.Need-count-with-key-requires
 count-with-key-requires c κs =
@@ -39,7 +39,7 @@ count-with-key-requires c κs =
     let rows-of = c .before .before .before .before .rows-of in
     let s = c .before .before .before .before .before .before .before in
     let a = s .args in
-    (children-stand (a .schema .now) (a .area .now) (a .k) (a .t) (a .r) (a .pairs) (s .pre .0 .0) (s .pre .0 .1) (child .ensures .0) (rows-of .result) (rows-of .ensures), children-sought (a .schema .now) (a .area .now) (a .k) (a .t) (a .r) (a .pairs) (s .pre .0 .0) (s .pre .0 .1) (child .ensures .0) (rows-of .result) (rows-of .ensures) (c .before .sought-key .ensures))
+    (children-stand (a .schema .now) (a .area .now) (a .k) (a .t) (a .r) (a .pairs) (s .pre .0 .0) (s .pre .0 .1 .0) (s .pre .0 .1 .1) (child .ensures .0) (rows-of .result) (rows-of .ensures), children-sought (a .schema .now) (a .area .now) (a .k) (a .t) (a .r) (a .pairs) (s .pre .0 .0) (s .pre .0 .1 .0) (s .pre .0 .1 .1) (child .ensures .0) (rows-of .result) (rows-of .ensures) (c .before .sought-key .ensures))
 
 returns-2 : tie.Need-returns-2
 returns-2 c =
@@ -48,7 +48,7 @@ returns-2 c =
     let s = c .before .before .before .before .before .before .before .before in
     let a = s .args in
     let m = c .count-with-key .ensures in
-    (m .0 ∙ taken-all (a .schema .now) (a .area .now) (a .k) (a .t) (a .r) (a .pairs) (s .pre .0 .0) (s .pre .0 .1) (child .ensures .0) (rows-of .result) (rows-of .ensures) (c .before .if1 .left) (a .image) (c .before .before .sought-key .ensures), children-few (a .schema .now) (a .area .now) (a .k) (a .t) (a .r) (a .pairs) (s .pre .0 .0) (s .pre .0 .1) (child .ensures .0) (rows-of .result) (rows-of .ensures) (m .1))
+    (m .0 ∙ taken-all (a .schema .now) (a .area .now) (a .k) (a .t) (a .r) (a .pairs) (s .pre .0 .0) (s .pre .0 .1 .0) (s .pre .0 .1 .1) (child .ensures .0) (rows-of .result) (rows-of .ensures) (c .before .if1 .left) (a .image) (c .before .before .sought-key .ensures), children-few (a .schema .now) (a .area .now) (a .k) (a .t) (a .r) (a .pairs) (s .pre .0 .0) (s .pre .0 .1 .0) (s .pre .0 .1 .1) (child .ensures .0) (rows-of .result) (rows-of .ensures) (m .1))
 
 pub taken-rows-spec : {M : Type 1} → statement M
 taken-rows-spec =

@@ -1,7 +1,9 @@
-use mathlib.Core.Path.{sym, _∙_}
+use mathlib.Core.Path.{_≡_, ap, _∙_}
+use lib.ListN.{length}
 use Rattle.schema.specs.Records.{keyOf}
 use Rattle.schema.specs.Fields.{schemaOf}
-use Rattle.rows.proofs.TableLaws.{parent-table, parent-columns, parent-wide, parent-folds}
+use Rattle.bridge.proofs.MapLaws.{child-plain}
+use Rattle.rows.proofs.TableLaws.{parent-columns, parent-wide}
 use Rattle.rows.proofs.ActionLaws.{fires-rest}
 use borrow.Author.Needs.{needs}
 use Rattle.rows.proofs.fires.Statement.{statement}
@@ -13,33 +15,32 @@ width-requires c κs = search needs
 parent-columns-requires : tie.Need-parent-columns-requires
 parent-columns-requires c κs = search needs
 
-folded-requires : tie.Need-folded-requires
-folded-requires c κs =
+key-folds-requires : tie.Need-key-folds-requires
+key-folds-requires c κs =
     let s = c .before .before .before in
-    let w = s .pre .whole-key in
-    (w .accepted, rw (← s .pre .parent-is) (parent-table (s .args .schema .now) (s .args .k) w))
+    let p = s .pre .plain-key in
+    let n = c .before .width in
+    (parent-columns (s .args .schema .now) (s .args .k) (p .whole-key) (n .result) (n .ensures .0 ∙ ap length (child-plain _ (p .plain))) (c .parent-columns .result) (c .parent-columns .ensures), s .pre .parent-is)
 
 key-changes-requires : tie.Need-key-changes-requires
 key-changes-requires c κs =
     let s = c .before .before .before .before in
-    let b = s .args .schema .now in
+    let p = s .pre .plain-key in
+    let n = c .before .before .width in
     let ps = c .before .parent-columns in
-    parent-wide b (s .args .k) _ (ps .result) (parent-columns b (s .args .k) (s .pre .whole-key) (c .before .before .width .ensures .0) (ps .result) (ps .ensures))
+    parent-wide (s .args .schema .now) (s .args .k) (n .result) (ps .result) (parent-columns (s .args .schema .now) (s .args .k) (p .whole-key) (n .result) (n .ensures .0 ∙ ap length (child-plain _ (p .plain))) (ps .result) (ps .ensures))
 
 returns : tie.Need-returns
 returns c =
     let s = c .before .before .before .before .before in
     let a = s .args in
-    let p = s .pre in
+    let p = s .pre .plain-key in
+    let n = c .before .before .before .width in
     let ps = c .before .before .parent-columns in
-    let n = c .before .before .before .width .ensures .0 in
     let K = keyOf (schemaOf (a .schema .now)) (a .k) in
-    let columns = parent-columns (a .schema .now) (a .k) (p .whole-key) n (ps .result) (ps .ensures) in
     c .key-changes .ensures
-    ∙ fires-rest (a .new) (a .t) (a .old) K (p .parent-is) (p .whole-key .whole)
-    (parent-folds (a .schema .now) (a .k) _ (ps .result) columns (sym (p .parent-is)) (c .before .folded .ensures .0)) (columns .parent-is)
+    ∙ fires-rest (a .new) (a .t) (a .old) K (p .plain) (s .pre .parent-is) (p .whole-key .whole) (c .before .key-folds .ensures)
+    (parent-columns (a .schema .now) (a .k) (p .whole-key) (n .result) (n .ensures .0 ∙ ap length (child-plain _ (p .plain))) (ps .result) (ps .ensures) .parent-is)
 
 pub fires-spec : {M : Type 1} → statement M
-fires-spec =
-    tie.close
-    (tie.spec width-requires parent-columns-requires folded-requires key-changes-requires returns)
+fires-spec = tie.close (tie.spec width-requires parent-columns-requires key-folds-requires key-changes-requires returns)

@@ -44,8 +44,8 @@ returns c =
     let s = c .before .before .before .before .before .before in
     let a = s .args in
     let u = back _ (c .before .before .before .before .compared .ok) ∙ c .before .before .before .before .compared .ensures ∙ ap (folded (a .f)) (back (getD (a .t1) (a .c + 1) 𝟘) (c .before .before .before .before .before .compared-arg .given)) in
-    let v = back _ (c .before .before .compared2 .ok) ∙ c .before .before .compared2 .ensures ∙ ap (folded (a .f)) (back (getD (a .t2) (a .c + 1) 𝟘) (c .before .before .before .compared-arg2 .given)) in
-    cell-differs (a .t1) (a .t2) (a .f) (a .c) (sym (c .before .same-word .ensures ∙ ap₂ sameWord u v) ∙ not-true _ (c .if1 .taken))
+    let v = back _ (c .before .before .compared2 .ok) ∙ c .before .before .compared2 .ensures ∙ ap (folded (a .f)) (back (getD (a .t2) (a .d + 1) 𝟘) (c .before .before .before .compared-arg2 .given)) in
+    cell-differs (a .t1) (a .t2) (a .f) (a .c) (a .d) (sym (c .before .same-word .ensures ∙ ap₂ sameWord u v) ∙ not-true _ (c .if1 .taken))
 
 array-copy-out-nat-of : tie.Need-array-copy-out-nat-of
 array-copy-out-nat-of c = search needs
@@ -70,11 +70,11 @@ returns-2 c =
     let s = c .before .before .before .before .before .before .before .before .before .before .before .before in
     let a = s .args in
     let u = back _ (c .before .before .before .before .before .before .before .before .before .before .compared .ok) ∙ c .before .before .before .before .before .before .before .before .before .before .compared .ensures ∙ ap (folded (a .f)) (back (getD (a .t1) (a .c + 1) 𝟘) (c .before .before .before .before .before .before .before .before .before .before .before .compared-arg .given)) in
-    let v = back _ (c .before .before .before .before .before .before .before .before .compared2 .ok) ∙ c .before .before .before .before .before .before .before .before .compared2 .ensures ∙ ap (folded (a .f)) (back (getD (a .t2) (a .c + 1) 𝟘) (c .before .before .before .before .before .before .before .before .before .compared-arg2 .given)) in
+    let v = back _ (c .before .before .before .before .before .before .before .before .compared2 .ok) ∙ c .before .before .before .before .before .before .before .before .compared2 .ensures ∙ ap (folded (a .f)) (back (getD (a .t2) (a .d + 1) 𝟘) (c .before .before .before .before .before .before .before .before .before .compared-arg2 .given)) in
     let x = c .before .bit-of .ensures ∙ ap (bit (a .c)) (c .before .before .before .before .nat-of .ensures ∙ ap natOf (back (getD (a .t1) 0 𝟘) (c .before .before .before .before .before .nat-of-arg .given))) in
-    let y = c .bit-of2 .ensures ∙ ap (bit (a .c)) (c .before .before .nat-of2 .ensures ∙ ap natOf (back (getD (a .t2) 0 𝟘) (c .before .before .before .nat-of-arg2 .given))) in
+    let y = c .bit-of2 .ensures ∙ ap (bit (a .d)) (c .before .before .nat-of2 .ensures ∙ ap natOf (back (getD (a .t2) 0 𝟘) (c .before .before .before .nat-of-arg2 .given))) in
     ap₂ (λ (m n : Bool). not m && not n) x y
-    ∙ cell-same (a .t1) (a .t2) (a .f) (a .c) (sym (c .before .before .before .before .before .before .before .same-word .ensures ∙ ap₂ sameWord u v) ∙ not-false _ (c .before .before .before .before .before .before .if1 .left))
+    ∙ cell-same (a .t1) (a .t2) (a .f) (a .c) (a .d) (sym (c .before .before .before .before .before .before .before .same-word .ensures ∙ ap₂ sameWord u v) ∙ not-false _ (c .before .before .before .before .before .before .if1 .left))
 
 pub same-cell-spec : {M : Type 1} → statement M
 same-cell-spec =

@@ -11,52 +11,34 @@ use Rattle.schema.proofs.Formed.{Codes, codes}
 use borrow.Author.Needs.{needs}
 use Rattle.schema_form.proofs.key_rules.Statement.{statement}
 use Rattle.schema_form.proofs.key_rules.Tie as tie
-use Rattle.schema_form.proofs.key_rules.Reads as reads
-use Rattle.schema_form.proofs.key_rules.Lts as lts
-use Rattle.numbers.proofs.byte_at.Reads as byte-at-reads
-use Rattle.schema_form.proofs.code_rules.Reads as code-rules-reads
-use Rattle.schema_form.proofs.column_rules.Reads as column-rules-reads
-use Rattle.schema_form.proofs.columns_rule.Reads as columns-rule-reads
-use Rattle.schema_tables.proofs.is_byte.Reads as is-byte-reads
-use Rattle.numbers.proofs.key_start.Reads as key-start-reads
 
--- src/lib.rt:366:9
 code-rules-requires : tie.Need-code-rules-requires
 code-rules-requires c κs = search needs
 
--- src/lib.rt:367:9
 returns : tie.Need-returns
 returns c = key-no _ _ (sym (c .before .code-rules .ensures) ∙ not-true _ (c .if1 .taken))
 
--- src/lib.rt:369:9
 key-start-requires : tie.Need-key-start-requires
 key-start-requires c κs = search needs
 
--- src/lib.rt:370:9
 byte-at-requires : tie.Need-byte-at-requires
 byte-at-requires c κs = search needs
 
--- src/lib.rt:371:24
 add-byte-at : tie.Need-add-byte-at
 add-byte-at c = search needs
 
--- src/lib.rt:371:9
 byte-at-requires-2 : tie.Need-byte-at-requires-2
 byte-at-requires-2 c κs = search needs
 
--- src/lib.rt:372:35
 mul-byte-at : tie.Need-mul-byte-at
 mul-byte-at c = search needs
 
--- src/lib.rt:372:30
 add-byte-at-2 : tie.Need-add-byte-at-2
 add-byte-at-2 c = search needs
 
--- src/lib.rt:372:30
 add-byte-at-3 : tie.Need-add-byte-at-3
 add-byte-at-3 c = search needs
 
--- src/lib.rt:372:9
 codes-here : (c : tie.After-byte-at2) → Codes (c .before .before .before .before .before .before .args .s .now) (c .before .before .before .before .before .before .args .k)
 codes-here c = codes _ _ (sym (c .before .before .before .before .code-rules .ensures) ∙ not-false _ (c .before .before .before .if1 .left))
 
@@ -69,41 +51,30 @@ width-here c = c .byte-at2 .ensures .0 ∙ ap (λ (at : ℕ). Bytes.byte (c .bef
 byte-at-requires-3 : tie.Need-byte-at-requires-3
 byte-at-requires-3 c κs = omega (arith, child-here c, codes-here c .child)
 
--- src/lib.rt:373:21
 add-column-rules : tie.Need-add-column-rules
 add-column-rules c = search needs
 
--- src/lib.rt:373:5
 column-rules-requires : tie.Need-column-rules-requires
 column-rules-requires c κs = omega (arith, width-here (c .before), codes-here (c .before) .width .high)
 
--- src/lib.rt:374:27
 add-columns-rule : tie.Need-add-columns-rule
 add-columns-rule c = search needs
 
--- src/lib.rt:374:11
 columns-rule-requires : tie.Need-columns-rule-requires
 columns-rule-requires c κs = omega (arith, width-here (c .before .before), codes-here (c .before .before) .width .high)
 
--- src/lib.rt:375:27
 add-columns-rule-2 : tie.Need-add-columns-rule-2
 add-columns-rule-2 c = search needs
 
--- src/lib.rt:375:11
 columns-rule-requires-2 : tie.Need-columns-rule-requires-2
 columns-rule-requires-2 c κs = omega (arith, width-here (c .before .before .before), codes-here (c .before .before .before) .width .high)
 
--- src/lib.rt:376:11
-is-byte-requires : tie.Need-is-byte-requires
-is-byte-requires c κs = search needs
-
--- src/lib.rt:362:1
 returns-2 : tie.Need-returns-2
 unfolding Check.keyRest every andAll
 returns-2 c =
-    let code-rules = c .before .before .before .before .before .before .before .before .before .code-rules in
-    let if1 = c .before .before .before .before .before .before .before .before .if1 in
-    cc (key-rest (c .before .before .before .before .before .before .before .before .before .before .before .args .s .now) (c .before .before .before .before .before .before .before .before .before .before .before .args .k) (sym (code-rules .ensures) ∙ not-false _ (if1 .left)), child-here (c .before .before .before .before .before), width-here (c .before .before .before .before .before))
+    let code-rules = c .before .before .before .before .before .before .before .before .code-rules in
+    let if1 = c .before .before .before .before .before .before .before .if1 in
+    cc (key-rest (c .before .before .before .before .before .before .before .before .before .before .args .s .now) (c .before .before .before .before .before .before .before .before .before .before .args .k) (sym (code-rules .ensures) ∙ not-false _ (if1 .left)), child-here (c .before .before .before .before), width-here (c .before .before .before .before))
 
 pub key-rules-spec : {M : Type 1} → statement M
 key-rules-spec =
@@ -125,5 +96,4 @@ key-rules-spec =
     columns-rule-requires
     add-columns-rule-2
     columns-rule-requires-2
-    is-byte-requires
     returns-2)

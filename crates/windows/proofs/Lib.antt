@@ -1,0 +1,3 @@
+pub mod DayLaws
+mod WindowLaws
+pub mod KeyDays
