@@ -10,6 +10,7 @@ mod old_keys;
 mod paper;
 mod searches;
 mod students;
+mod windows;
 mod words;
 
 use crate::engine::{Engine, Orphan};
@@ -40,7 +41,8 @@ const HEADING: &str = "\
 Each case starts from a fresh area. After a call stands its answer: code,changed,net.
 Code 0 is accepted, any other the number of the refusal; changed is the rows changed;
 net is the change in all kept orphans. c0 is a table's first column. Where columns are folded,
-words are shown as their bytes, the lowest first: as text, or in hexadecimal.
+words are shown as their bytes, the lowest first: as text, or in hexadecimal. A windowed key has
+its first days in its last parent column, and its ends in the column that is named after it.
 ";
 
 pub fn all() -> Vec<Case> {
@@ -54,6 +56,7 @@ pub fn all() -> Vec<Case> {
         match_full::cases(),
         broken_keys::cases(),
         folded::cases(),
+        windows::cases(),
     ]
     .into_iter()
     .flatten()

@@ -51,7 +51,7 @@ fn table_words(schema: &Schema, table: &Table) -> String {
 
 fn key_words(key: &Key) -> String {
     format!(
-        "table {} {} refers to table {} {}, {}, on delete {}, on update {}{}{}",
+        "table {} {} refers to table {} {}, {}, on delete {}, on update {}{}{}{}",
         key.child,
         columns(&key.child_columns),
         key.parent,
@@ -66,6 +66,10 @@ fn key_words(key: &Key) -> String {
         match key.matching {
             Match::Simple => "",
             Match::Full => ", MATCH FULL",
+        },
+        match key.window {
+            None => "".into(),
+            Some(window) => format!(", windowed until c{}", window.end),
         },
         if key.broken { ", broken" } else { "" }
     )

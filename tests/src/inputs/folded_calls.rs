@@ -6,6 +6,7 @@ use super::folded::row;
 use super::grounds::Ground;
 use super::{searches, spellings};
 use crate::model::area::Area;
+use crate::model::keys::row_maps;
 use crate::model::schema::{Key, Row};
 use crate::model::search::Search;
 use crate::random::Random;
@@ -73,9 +74,8 @@ fn respelled(r: &mut Random, mut row: Row, columns: &[usize]) -> Row {
 /// or deleted.
 fn on_parent(r: &mut Random, ground: &Ground, area: &Area, key: &Key) -> Option<Vec<i64>> {
     let (_, child) = some_row(r, area, key.child)?;
-    let wanted = key.compared(&key.child_key(&child));
     let mut parents = area.live_rows(key.parent);
-    parents.retain(|(_, row)| key.compared(&key.parent_key(row)) == wanted);
+    parents.retain(|(_, row)| row_maps(key, &child, row));
     let (number, mut parent) = parents.pop()?;
     let column = r.pick(&key.parent_columns);
     match r.between(0, 5) {

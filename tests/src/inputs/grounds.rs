@@ -1,6 +1,6 @@
 //! Valid schemas on which calls are tried: small, so that keys collide.
 
-use super::{broken_keys, half_filled, spellings};
+use super::{broken_keys, half_filled, spellings, windows};
 use crate::model::area::Area;
 use crate::model::schema::Schema;
 use crate::random::Random;
@@ -88,6 +88,13 @@ impl Ground {
         }
     }
 
+    /// The same with no foreign key windowed.
+    pub fn unwindowed(mut self) -> Ground {
+        let keys = self.records.keys.iter_mut();
+        keys.for_each(|key| key.windowed = 0);
+        Ground::new(self.records, self.values)
+    }
+
     /// The same with MATCH SIMPLE in every foreign key.
     pub fn of_match_simple(mut self) -> Ground {
         let keys = self.records.keys.iter_mut();
@@ -96,12 +103,13 @@ impl Ground {
     }
 }
 
-/// A schema on which keys collide: in some of them some are broken, in some columns are folded.
+/// A schema on which keys collide: in some of them some are broken or windowed, in some columns are
+/// folded.
 pub fn collisions(r: &mut Random) -> Ground {
-    if r.once_in(8) {
-        broken_keys::ground(r)
-    } else {
-        whole_collisions(r).folded_once_in(r, 3)
+    match r.between(0, 7) {
+        0 => broken_keys::ground(r),
+        1 => windows::ground(r),
+        _ => whole_collisions(r).folded_once_in(r, 3),
     }
 }
 
@@ -205,7 +213,7 @@ pub fn chain(r: &mut Random) -> Ground {
         } else {
             SIMPLE
         },
-        zero: 0,
+        windowed: 0,
     };
     let keys = vec![key; r.pick(&[1, 1, 1, 2])];
     let room = r.pick(&[8, 16, 17, 32, 40, 40]);
@@ -251,7 +259,7 @@ fn gathered_key(r: &mut Random, tables: usize) -> Key {
         child_columns: four(&[r.between(1, 2) as u8]),
         parent_columns: four(&[0]),
         matching: r.between(0, 1) as u8,
-        zero: 0,
+        windowed: 0,
     }
 }
 
@@ -317,7 +325,7 @@ fn tangled_key(
         child_columns: four(&child_columns[..width]),
         parent_columns: four(&parent_columns),
         matching: r.between(0, 1) as u8,
-        zero: 0,
+        windowed: 0,
     }
 }
 

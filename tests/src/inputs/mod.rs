@@ -19,3 +19,5 @@ pub mod parents;
 pub mod populated;
 pub mod searches;
 pub mod spellings;
+pub mod window_calls;
+pub mod windows;

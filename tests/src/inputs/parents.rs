@@ -3,7 +3,7 @@
 use super::calls::{another, row_call};
 use super::grounds::Ground;
 use crate::model::area::Area;
-use crate::model::keys::full;
+use crate::model::keys::{full, maps};
 use crate::model::schema::{Key, Row};
 use crate::random::Random;
 
@@ -36,7 +36,7 @@ fn referred_to(r: &mut Random, area: &Area, key: &Key) -> Option<(usize, Row)> {
     }
     let wanted = &wanted[r.between(0, wanted.len() - 1)];
     let mut parents = area.live_rows(key.parent).into_iter();
-    parents.find(|(_, row)| key.compared(&key.parent_key(row)) == *wanted)
+    parents.find(|(_, row)| maps(key, wanted, &key.compared(&key.parent_key(row))))
 }
 
 /// The row with other values in its key: now and then those that some child row has, else a new one

@@ -1,7 +1,7 @@
 //! Mistakes in keys, orphans and referential actions.
 
 use super::Mistake;
-use crate::model::keys::{full, half_filled, having, orphan};
+use crate::model::keys::{full, half_filled, having, maps, orphan};
 use crate::model::schema::Action;
 use crate::model::walk;
 
@@ -38,10 +38,10 @@ pub const ALL: &[Mistake] = &[
     ("NULL taken as equal to NULL", |rules| {
         rules.fires =
             |key, old, new| new.map_or(true, |new| key.compared(new) != key.compared(old));
-        rules.equal = |one, other| one == other;
+        rules.maps = |key, one, other| one == other || maps(key, one, other);
     }),
     ("only the first column of a key compared", |rules| {
-        rules.equal = |one, other| full(one) && one[0] == other[0];
+        rules.maps = |_, one, other| full(one) && one[0] == other[0];
     }),
     ("foreign keys from the last to the first", |rules| {
         rules.key_sequence = |_, keys| keys.into_iter().rev().collect();
@@ -51,7 +51,7 @@ pub const ALL: &[Mistake] = &[
     }),
     ("child rows listed before the first is changed", |rules| {
         rules.turns = having;
-        rules.equal = |_, _| true;
+        rules.maps = |_, _, _| true;
     }),
     ("a row that comes to have the old key not taken", |rules| {
         rules.turns = having;

@@ -5,7 +5,7 @@ use super::worthless::with_calls;
 use super::{Mistake, Named};
 use crate::engine::{Answer, Engine};
 use crate::model::change::{uses, Kind};
-use crate::model::schema::{same, Key, Schema, Table};
+use crate::model::schema::{has_end, has_unique, same, Key, Schema, Table};
 use crate::model::Model;
 
 pub const ALL: &[Mistake] = &[
@@ -108,7 +108,7 @@ pub const ALL: &[Mistake] = &[
         rules.read = |bytes| {
             let mut schema = Schema::read(bytes)?;
             schema.keys.iter_mut().for_each(|key| key.parent %= 16);
-            Ok(schema.with_broken(|parent, columns| any_unique(parent, |u| same(u, columns))))
+            Ok(schema.with_broken(has_unique, has_end))
         };
     }),
 ];
@@ -151,7 +151,7 @@ fn refusing(bytes: &[u8], code: i64) -> Result<Schema, i64> {
 
 /// The schema with another reading of whether a parent serves a key.
 fn reading(bytes: &[u8], serves: fn(&Table, &[usize]) -> bool) -> Result<Schema, i64> {
-    Schema::read(bytes).map(|schema| schema.with_broken(serves))
+    Schema::read(bytes).map(|schema| schema.with_broken(serves, has_end))
 }
 
 fn any_unique(parent: &Table, is: impl Fn(&[usize]) -> bool) -> bool {

@@ -6,7 +6,7 @@ use super::Mistake;
 use crate::engine::Orphan;
 use crate::model::area::Area;
 use crate::model::change::Change;
-use crate::model::keys::{empty, equal_where_filled, full, half_filled, orphan};
+use crate::model::keys::{empty, equal_where_filled, full, half_filled, orphan, served};
 use crate::model::list;
 use crate::model::rules::Rules;
 use crate::model::schema::{Action, Key, Match, Row};
@@ -126,8 +126,8 @@ fn is_match_full(key: &Key) -> bool {
 }
 
 /// An orphan by MATCH SIMPLE.
-fn simple(_: &Key, child_key: &Row, parent_keys: &BTreeSet<Row>) -> bool {
-    full(child_key) && !parent_keys.contains(child_key)
+fn simple(key: &Key, child_key: &Row, parent_keys: &BTreeSet<Row>) -> bool {
+    full(child_key) && !served(key, child_key, parent_keys)
 }
 
 /// Whether the new row of a change is half-filled under no key of MATCH FULL.

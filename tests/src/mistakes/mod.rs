@@ -11,8 +11,10 @@ mod orphan_list;
 mod other_bytes;
 mod refusals;
 mod searches;
+mod shared_days;
 mod spellings;
 mod transactions;
+mod windows;
 mod worthless;
 
 use crate::engine::Engine;
@@ -43,13 +45,19 @@ pub fn all() -> Vec<Named> {
         folded::BYTES,
         folded::MARKS,
         spellings::ALL,
+        windows::DAYS,
+        windows::BROKEN,
+        windows::CHANGES,
+        windows::ORPHANS,
+        shared_days::ORDER,
+        shared_days::SHARED,
     ];
     let misread = lists.into_iter().flatten().map(|&(name, change)| {
         let mut model = Model::of_the_paper();
         change(&mut model.rules);
         (name, Box::new(model) as Box<dyn Engine>)
     });
-    let readings = [match_full::READINGS, folded::READINGS];
+    let readings = [match_full::READINGS, folded::READINGS, windows::READINGS];
     let readings = readings.into_iter().flatten().map(other_bytes::engine);
     let others = [worthless::all(), broken_readings::by_statement()];
     let others = others.into_iter().flatten();

@@ -2,7 +2,7 @@
 
 use super::Mistake;
 use crate::model::area::Area;
-use crate::model::keys::{equal, full};
+use crate::model::keys::{full, maps};
 use crate::model::rules::Rules;
 use crate::model::schema::Row;
 use crate::model::walk::{self, Walk};
@@ -60,7 +60,7 @@ pub const ALL: &[Mistake] = &[
         "the old key in the order of the parent's columns",
         |rules| {
             rules.found = |rules, area, walk, row| {
-                let columns = walk.key.parent_columns.iter();
+                let columns = walk.key.columns_in_parent();
                 let mut pairs: Vec<_> = columns.zip(walk.old_key.clone()).collect();
                 pairs.sort();
                 let key = pairs.into_iter().map(|(_, value)| value).collect();
@@ -71,9 +71,9 @@ pub const ALL: &[Mistake] = &[
     (
         "the last column of a key of three or four not compared",
         |rules| {
-            rules.equal = |one, other| match one.len() {
+            rules.maps = |key, one, other| match one.len() {
                 n @ 3.. => full(one) && one[..n - 1] == other[..n - 1],
-                _ => equal(one, other),
+                _ => maps(key, one, other),
             };
         },
     ),
@@ -134,14 +134,14 @@ fn seek(
 
 /// The words of a row in the columns of the parent's key.
 fn in_columns(values: &[i64], walk: &Walk) -> Row {
-    let columns = walk.key.parent_columns.iter();
-    columns.map(|&column| Some(values[column])).collect()
+    let columns = walk.key.columns_in_parent();
+    columns.map(|column| Some(values[column])).collect()
 }
 
-/// Whether the words of a child row, live or vacant, are the old key.
+/// Whether the words of a child row, live or vacant, map to the old key.
 fn has_words(area: &Area, walk: &Walk, row: usize) -> bool {
     let (_, values) = area.stored(walk.key.child, row);
     let columns = walk.key.child_columns.iter();
-    let words = columns.map(|&column| Some(values[column]));
-    words.eq(walk.old_key.iter().copied())
+    let words: Row = columns.map(|&column| Some(values[column])).collect();
+    maps(walk.key, &words, &walk.old_key)
 }

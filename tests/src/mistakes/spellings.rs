@@ -4,7 +4,7 @@ use super::Mistake;
 use crate::model::area::Area;
 use crate::model::change;
 use crate::model::folding::{compared, compared_key, folded, Mark};
-use crate::model::keys::{equal, full};
+use crate::model::keys::{full, maps};
 use crate::model::rules::Rules;
 use crate::model::schema::{parent_mark, Action, Row, Schema};
 use crate::model::walk::{self, Walk};
@@ -98,7 +98,7 @@ pub const ALL: &[Mistake] = &[
 /// The child row of this number, if it is live and has the old key as typed.
 fn found_as_typed(area: &Area, walk: &Walk, row: usize) -> Option<(usize, Row)> {
     let live = area.row(walk.key.child, row);
-    live.filter(|child| equal(&walk.key.child_key(child), &walk.old_key))
+    live.filter(|child| maps(walk.key, &walk.key.child_key(child), &walk.old_key))
         .map(|child| (row, child))
 }
 

@@ -6,6 +6,7 @@ use super::keys::equal;
 use super::rules::Rules;
 use super::schema::{Key, Row, Table};
 use super::walk::{self, Walk};
+use super::windows;
 
 /// A row to be written: none is a deletion.
 pub struct Change {
@@ -53,6 +54,9 @@ pub const CHECKS: &[Check] = &[
     (23, |area, change| uses_no_broken_key(area, change, uses)),
     (16, not_null),
     (17, |area, change| unique(area, change, own_mark, equal)),
+    (24, |area, change| {
+        windows::pass(area, change, windows::PAPER)
+    }),
 ];
 
 /// Whether a change of this kind of a row of the table uses a foreign key: an insert or an update of

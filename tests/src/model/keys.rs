@@ -32,13 +32,44 @@ pub fn equal_where_filled(one: &Row, other: &Row) -> bool {
     pairs.all(|(one, other)| one.is_none() || one == other)
 }
 
-/// The child rows that have this key, rising.
+/// Whether a child key maps to a parent key, both as they are compared: they are equal, or under a
+/// windowed key equal but for the day, which lies in the window.
+pub fn maps(key: &Key, child: &Row, parent: &Row) -> bool {
+    let window = match key.window {
+        None => return equal(child, parent),
+        Some(window) => window,
+    };
+    let last = child.len() - 1;
+    let others = |key: &Row| key[..last].to_vec();
+    let end = parent.get(last + 1).copied().flatten();
+    equal(&others(child), &others(parent)) && (window.holds)(child[last], parent[last], end)
+}
+
+/// Whether a child row maps to a parent row.
+pub fn row_maps(key: &Key, child: &Row, parent: &Row) -> bool {
+    let child = key.compared(&key.child_key(child));
+    maps(key, &child, &key.compared(&key.parent_key(parent)))
+}
+
+/// The child rows that map to this parent key, rising.
 pub fn having(area: &Area, key: &Key, wanted: &Row) -> Vec<usize> {
     let rows = area.live_rows(key.child).into_iter();
     let wanted = key.compared(wanted);
-    rows.filter(|(_, row)| equal(&key.compared(&key.child_key(row)), &wanted))
+    rows.filter(|(_, row)| maps(key, &key.compared(&key.child_key(row)), &wanted))
         .map(|(number, _)| number)
         .collect()
+}
+
+/// Whether a child key maps to one of these parent keys, all as they are compared. Those that are
+/// equal but for the days stand together.
+pub fn served(key: &Key, child_key: &Row, parent_keys: &BTreeSet<Row>) -> bool {
+    if key.window.is_none() {
+        return parent_keys.contains(child_key);
+    }
+    let others = child_key[..child_key.len() - 1].to_vec();
+    let from_there = parent_keys.range(others.clone()..);
+    let mut beside = from_there.take_while(|parent| parent.starts_with(&others));
+    beside.any(|parent| maps(key, child_key, parent))
 }
 
 /// Whether a live row with this child key is an orphan, given the keys of the live parent rows, all
@@ -51,7 +82,7 @@ pub fn orphan(key: &Key, child_key: &Row, parent_keys: &BTreeSet<Row>) -> bool {
 pub fn unserved(key: &Key, child_key: &Row, parent_keys: &BTreeSet<Row>) -> bool {
     match key.matching {
         Match::Full if half_filled(child_key) => true,
-        _ => full(child_key) && !parent_keys.contains(child_key),
+        _ => full(child_key) && !served(key, child_key, parent_keys),
     }
 }
 

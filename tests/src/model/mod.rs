@@ -15,6 +15,7 @@ pub mod statement;
 pub mod strike;
 pub mod transaction;
 pub mod walk;
+pub mod windows;
 
 use crate::engine::{Answer, Engine, Listed, Orphan};
 use area::Area;

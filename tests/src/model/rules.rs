@@ -23,15 +23,16 @@ pub struct Rules {
     pub call_forms: Vec<form::Form>,
     /// Refusal 10: what must hold of the words of an area.
     pub area_forms: Vec<damage::Form>,
-    /// The checks of a row change, in order: refusals 14, 15, 23, 16 and 17.
+    /// The checks of a row change, in order: refusals 14, 15, 23, 16, 17 and 24.
     pub checks: Vec<Check>,
     /// The checks at the end of a statement, in order, each for all keys: refusals 19 and 20.
     pub ends: Vec<End>,
     /// Whether a live row is an orphan: of which key, its child key, the keys of live parent rows, all
     /// as they are compared.
     pub orphan: fn(&Key, &Row, &BTreeSet<Row>) -> bool,
-    /// Whether a child key is the parent key, both as they are compared.
-    pub equal: fn(&Row, &Row) -> bool,
+    /// Whether a child row is taken: which key, its child key and the old parent key, both as they are
+    /// compared.
+    pub maps: fn(&Key, &Row, &Row) -> bool,
     /// Whether actions of a foreign key follow a change of this parent key to that one, both as typed,
     /// or to none by a deletion.
     pub fires: fn(&Key, &Row, Option<&Row>) -> bool,
@@ -43,6 +44,8 @@ pub struct Rules {
     pub turns: fn(&Area, &Key, &Row) -> Vec<usize>,
     /// The child row that is taken at the turn of a number, with its number.
     pub found: fn(&Rules, &Area, &Walk, usize) -> Option<(usize, Row)>,
+    /// Whether RESTRICT refuses at a child row that is taken.
+    pub restricts: fn(&Area, &Walk, &Row) -> bool,
     /// What an action makes of a child row, given the new parent row.
     pub image: fn(&Schema, &Key, Action, &Row, Option<&Row>) -> Option<Row>,
     /// Writes a row change: journal and row.
@@ -102,12 +105,13 @@ impl Rules {
             checks: change::CHECKS.to_vec(),
             ends: statement::ENDS.to_vec(),
             orphan: keys::orphan,
-            equal: keys::equal,
+            maps: keys::maps,
             fires: walk::fires,
             action: walk::action,
             key_sequence: |_, keys| keys,
             turns: |area, key, _| (0..area.schema.tables[key.child].rows).collect(),
             found: walk::found,
+            restricts: walk::restricts,
             image: walk::image,
             write: change::write,
             rows_sought: search::rows,

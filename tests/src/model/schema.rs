@@ -60,6 +60,15 @@ impl Match {
     }
 }
 
+/// The window of a parent row under a windowed key.
+#[derive(Clone, Copy)]
+pub struct Window {
+    /// The parent column that holds the day after the last: the one after the last parent column.
+    pub end: usize,
+    /// Whether a day lies in the window of a first day and an end.
+    pub holds: fn(Value, Value, Value) -> bool,
+}
+
 #[derive(Clone)]
 pub struct Key {
     pub child: usize,
@@ -70,11 +79,13 @@ pub struct Key {
     pub child_columns: Vec<usize>,
     pub parent_columns: Vec<usize>,
     /// The mark by which each pair of columns is compared: that of the parent column. None where
-    /// the parent column is missing.
+    /// the parent column is missing, and for the days of a windowed key, of which the end is the last.
     pub marks: Vec<Mark>,
     pub matching: Match,
-    /// The parent table or a parent column is missing, or no unique key of the parent has exactly
-    /// the parent columns.
+    /// None where the key is not windowed.
+    pub window: Option<Window>,
+    /// The parent table or a parent column is missing, no unique key of the parent has exactly the
+    /// parent columns, or the end of a window is missing or in the key.
     pub broken: bool,
 }
 
@@ -102,26 +113,45 @@ impl Schema {
             keys: (0..s.keys()).map(|k| key(s, k)).collect(),
         };
         let schema = schema.with_marks(parent_mark);
-        schema.with_broken(|parent, columns| parent.unique.iter().any(|u| same(u, columns)))
+        schema.with_broken(has_unique, has_end)
     }
 
     /// The schema with each pair of columns of a foreign key compared by such a mark.
     pub fn with_marks(mut self, mark: fn(&[Table], &Key, usize) -> Mark) -> Schema {
         for key in &mut self.keys {
             let pairs = 0..key.child_columns.len();
-            key.marks = pairs.map(|pair| mark(&self.tables, key, pair)).collect();
+            let marks = pairs.map(|pair| mark(&self.tables, key, pair));
+            let end = key.window.map(|_| None);
+            key.marks = marks.chain(end).collect();
         }
         self
     }
 
-    /// The schema with those keys broken whose parent table is missing or does not serve the parent
-    /// columns.
-    pub fn with_broken(mut self, serves: fn(&Table, &[usize]) -> bool) -> Schema {
+    /// The schema with those keys broken whose parent table is missing, does not serve the parent
+    /// columns, or has no end for a windowed key.
+    pub fn with_broken(
+        mut self,
+        serves: fn(&Table, &[usize]) -> bool,
+        ends: fn(&Table, &Key) -> bool,
+    ) -> Schema {
         for key in &mut self.keys {
             let parent = self.tables.get(key.parent);
-            key.broken = !parent.map_or(false, |parent| serves(parent, &key.parent_columns));
+            let whole = |parent: &Table| serves(parent, &key.parent_columns) && ends(parent, key);
+            key.broken = !parent.map_or(false, whole);
         }
         self
+    }
+
+    /// The schema with other windows of its windowed keys.
+    pub fn with_windows(mut self, other: impl Fn(&Key, Window) -> Option<Window>) -> Schema {
+        for key in &mut self.keys {
+            key.window = key.window.and_then(|window| other(key, window));
+        }
+        self
+    }
+
+    pub fn any_windowed(&self) -> bool {
+        self.keys.iter().any(|key| key.window.is_some())
     }
 
     pub fn any_broken(&self) -> bool {
@@ -159,11 +189,17 @@ impl Key {
         self.child_columns.iter().map(|&c| row[c]).collect()
     }
 
-    /// The values in the parent columns. One that is missing reads as NULL: only a mistaken reading
-    /// looks there.
+    /// The parent columns, and after them the end of a windowed key.
+    pub fn columns_in_parent(&self) -> impl Iterator<Item = usize> + '_ {
+        let end = self.window.map(|window| window.end);
+        self.parent_columns.iter().copied().chain(end)
+    }
+
+    /// The values in these columns of a parent row. One that is missing reads as NULL: only a mistaken
+    /// reading looks there.
     pub fn parent_key(&self, row: &Row) -> Row {
-        let columns = self.parent_columns.iter();
-        columns.map(|&c| row.get(c).copied().flatten()).collect()
+        let columns = self.columns_in_parent();
+        columns.map(|c| row.get(c).copied().flatten()).collect()
     }
 
     /// The values of a child key or a parent key as they are compared.
@@ -172,14 +208,38 @@ impl Key {
     }
 }
 
-/// The mark by which a foreign key's pair of this number is compared: the parent column's.
+/// The mark by which a foreign key's pair of this number is compared: the parent column's, but none
+/// for the days of a windowed key.
 pub fn parent_mark(tables: &[Table], key: &Key, pair: usize) -> Mark {
-    mark_of(tables, key.parent, key.parent_columns[pair])
+    match key.window {
+        Some(_) if pair + 1 == key.parent_columns.len() => None,
+        _ => mark_of(tables, key.parent, key.parent_columns[pair]),
+    }
 }
 
 /// The mark of a column: none where it is missing.
 pub fn mark_of(tables: &[Table], table: usize, column: usize) -> Mark {
     *tables.get(table)?.marks.get(column)?
+}
+
+/// Whether exactly these columns are a unique key of the parent.
+pub fn has_unique(parent: &Table, columns: &[usize]) -> bool {
+    parent.unique.iter().any(|unique| same(unique, columns))
+}
+
+/// Whether the end of a windowed key is a column of the parent, and not in the key.
+pub fn has_end(parent: &Table, key: &Key) -> bool {
+    key.window.map_or(true, |window| {
+        window.end < parent.columns && !key.parent_columns.contains(&window.end)
+    })
+}
+
+/// Whether the first day is not after the day, and the end is. NULL lies in no window.
+pub fn holds(day: Value, first: Value, end: Value) -> bool {
+    match (day, first, end) {
+        (Some(day), Some(first), Some(end)) => first <= day && day < end,
+        _ => false,
+    }
 }
 
 /// Whether two lists have the same columns, in any order.
@@ -211,7 +271,10 @@ fn table(s: View, t: usize) -> Table {
 }
 
 fn key(s: View, k: usize) -> Key {
-    let numbers = |columns: &[u8]| columns.iter().map(|&c| usize::from(c)).collect();
+    let numbers =
+        |columns: &[u8]| -> Vec<usize> { columns.iter().map(|&c| usize::from(c)).collect() };
+    let parent_columns = numbers(s.parent_columns(k).0);
+    let end = parent_columns.last().map_or(0, |last| last + 1);
     Key {
         child: s.child(k),
         parent: s.parent(k),
@@ -219,12 +282,13 @@ fn key(s: View, k: usize) -> Key {
         on_delete: action(s.key_byte(k, 3)),
         on_update: action(s.key_byte(k, 4)),
         child_columns: numbers(s.child_columns(k).0),
-        parent_columns: numbers(s.parent_columns(k).0),
+        parent_columns,
         marks: Vec::new(),
         matching: match s.key_byte(k, 14) {
             0 => Match::Simple,
             _ => Match::Full,
         },
+        window: (s.key_byte(k, 15) == 1).then_some(Window { end, holds }),
         broken: false,
     }
 }

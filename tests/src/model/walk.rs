@@ -2,7 +2,7 @@
 
 use super::area::Area;
 use super::change::Change;
-use super::keys::full;
+use super::keys::{full, row_maps};
 use super::rules::Rules;
 use super::schema::{Action, Key, Row, Schema};
 
@@ -11,7 +11,7 @@ pub struct Walk<'a> {
     pub key: &'a Key,
     pub change: &'a Change,
     pub action: Action,
-    /// The parent's key before the change, as typed.
+    /// The parent's key before the change, with the end of a windowed key, as typed.
     pub old_key: Row,
 }
 
@@ -38,8 +38,8 @@ pub fn following<'a>(
     sequence.into_iter().filter_map(walk).collect()
 }
 
-/// Actions follow a deletion, or an update whose new key is not equal to the old one, if the old key
-/// has no NULL.
+/// Actions follow a deletion, or an update whose new key, with the end of a windowed key, is not equal
+/// to the old one, if the old key has no NULL.
 pub fn fires(key: &Key, old: &Row, new: Option<&Row>) -> bool {
     full(old) && new.map_or(true, |new| key.compared(new) != key.compared(old))
 }
@@ -61,7 +61,8 @@ impl Walk<'_> {
         };
         match self.action {
             Action::NoAction => return Ok(None),
-            Action::Restrict => return Err(18),
+            Action::Restrict if (rules.restricts)(area, self, &child) => return Err(18),
+            Action::Restrict => return Ok(None),
             _ => {}
         }
         let parent = self.change.new.as_ref();
@@ -74,12 +75,19 @@ impl Walk<'_> {
     }
 }
 
-/// The child row of this number, if it is live and has the old key.
+/// RESTRICT refuses a deletion, and an update where the child row does not map to the row that the
+/// change wrote.
+pub fn restricts(_: &Area, walk: &Walk, child: &Row) -> bool {
+    let new = walk.change.new.as_ref();
+    !new.map_or(false, |new| row_maps(walk.key, child, new))
+}
+
+/// The child row of this number, if it is live and maps to the old key.
 pub fn found(rules: &Rules, area: &Area, walk: &Walk, row: usize) -> Option<(usize, Row)> {
     let live = area.row(walk.key.child, row);
     let old_key = walk.key.compared(&walk.old_key);
     let child_key = |child: &Row| walk.key.compared(&walk.key.child_key(child));
-    live.filter(|child| (rules.equal)(&child_key(child), &old_key))
+    live.filter(|child| (rules.maps)(walk.key, &child_key(child), &old_key))
         .map(|child| (row, child))
 }
 

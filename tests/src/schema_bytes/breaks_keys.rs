@@ -2,6 +2,7 @@
 
 use crate::random::Random;
 use crate::schema_bytes::breaks::Break;
+use crate::schema_bytes::records::{Key, Schema};
 
 pub const KEYS: &[Break] = &[
     ("a child table missing", 1, |s, r| {
@@ -79,14 +80,68 @@ pub const KEYS: &[Break] = &[
             last.matching = r.edged(2, 255) as u8;
         }
     }),
-    ("the zero byte of a key not 0", 1, |s, r| {
-        s.any_key(r).zero = r.edged(1, 255) as u8;
+    ("a windowed byte of 2", 1, |s, r| s.any_key(r).windowed = 2),
+    ("a windowed byte of 255", 1, |s, r| {
+        s.any_key(r).windowed = 255
     }),
-    ("match and zero byte exchanged", 1, |s, r| {
+    ("a windowed byte above 1", 1, |s, r| {
+        s.any_key(r).windowed = r.edged(2, 255) as u8;
+    }),
+    ("a windowed byte above 1 in the last key only", 1, |s, r| {
+        if let [.., last] = &mut s.keys[..] {
+            last.windowed = r.edged(2, 255) as u8;
+        }
+    }),
+    ("a windowed key of one column", 1, |s, r| {
         let key = s.any_key(r);
-        (key.matching, key.zero) = (key.zero, key.matching);
+        if key.count == 1 {
+            (key.on_delete, key.on_update) = (r.between(0, 1) as u8, r.between(0, 1) as u8);
+            key.windowed = 1;
+        }
+    }),
+    ("a windowed key with SET NULL on delete", 1, |s, r| {
+        if let Some(key) = some_windowed(s, r) {
+            key.on_delete = 2;
+        }
+    }),
+    ("a windowed key with SET NULL on update", 1, |s, r| {
+        if let Some(key) = some_windowed(s, r) {
+            key.on_update = 2;
+        }
+    }),
+    (
+        "a windowed key with an on-delete action above 1",
+        1,
+        |s, r| {
+            if let Some(key) = some_windowed(s, r) {
+                key.on_delete = r.between(2, 4) as u8;
+            }
+        },
+    ),
+    (
+        "a windowed key with an on-update action above 1",
+        1,
+        |s, r| {
+            if let Some(key) = some_windowed(s, r) {
+                key.on_update = r.between(2, 4) as u8;
+            }
+        },
+    ),
+    ("a key with other actions made windowed", 1, |s, r| {
+        let key = s.any_key(r);
+        if key.on_delete > 1 || key.on_update > 1 {
+            key.windowed = 1;
+        }
     }),
 ];
+
+/// Some windowed key, if there is one.
+fn some_windowed<'a>(s: &'a mut Schema, r: &mut Random) -> Option<&'a mut Key> {
+    let windowed = s.keys.iter_mut().filter(|key| key.windowed == 1);
+    let mut keys: Vec<&mut Key> = windowed.collect();
+    r.shuffle(&mut keys);
+    keys.pop()
+}
 
 /// Sets a column past the first `count`, if there is one.
 fn set_past(columns: &mut [u8; 4], count: u8, r: &mut Random) {

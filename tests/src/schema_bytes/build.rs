@@ -41,7 +41,7 @@ pub fn key(child: (u8, &[u8]), parent: (u8, &[u8]), on_delete: u8, on_update: u8
         child_columns: four(child.1),
         parent_columns: four(parent.1),
         matching: SIMPLE,
-        zero: 0,
+        windowed: 0,
     }
 }
 
@@ -54,6 +54,11 @@ pub fn match_full(key: Key) -> Key {
         matching: FULL,
         ..key
     }
+}
+
+/// The key as a windowed one: its last parent column is the first day.
+pub fn windowed(key: Key) -> Key {
+    Key { windowed: 1, ..key }
 }
 
 /// The table with the columns of a mask folded.

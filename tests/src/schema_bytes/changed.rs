@@ -161,10 +161,77 @@ pub const CHANGED: &[Changed] = &[
     ("the match of the first key looked at", "match", |s, _| {
         s.key_byte(0, 14) <= 1
     }),
+    ("a windowed key refused", "windowed", |s, k| {
+        s.key_byte(k, 15) == 0
+    }),
+    ("windowed 2 let pass", "windowed", |s, k| {
+        s.key_byte(k, 15) <= 2
+    }),
+    ("windowed 255 let pass", "windowed", |s, k| {
+        matches!(s.key_byte(k, 15), 0 | 1 | 255)
+    }),
     (
-        "the zero byte looked at as another match",
-        "zero byte of a key",
-        |s, k| s.key_byte(k, 15) <= 1,
+        "the windowed byte of the first key looked at",
+        "windowed",
+        |s, _| s.key_byte(0, 15) <= 1,
+    ),
+    (
+        "a windowed key of MATCH FULL refused",
+        "windowed",
+        |s, k| s.key_byte(k, 15) <= 1 - s.key_byte(k, 14).min(1),
+    ),
+    ("a deferred windowed key refused", "windowed", |s, k| {
+        s.key_byte(k, 15) <= 1 - s.key_byte(k, 2).min(1)
+    }),
+    (
+        "a windowed key to its own table refused",
+        "windowed",
+        |s, k| s.key_byte(k, 15) <= usize::from(s.parent(k) != s.child(k)),
+    ),
+    (
+        "a windowed key without an end refused",
+        "windowed",
+        |s, k| s.key_byte(k, 15) <= usize::from(window_ends(s, k)),
+    ),
+    (
+        "a windowed key of two columns refused",
+        "columns of a windowed key",
+        |s, k| s.key_byte(k, 15) != 1 || s.count(k) >= 3,
+    ),
+    (
+        "a windowed key of four columns refused",
+        "columns of a windowed key",
+        |s, k| s.key_byte(k, 15) != 1 || (2..4).contains(&s.count(k)),
+    ),
+    (
+        "RESTRICT on delete of a windowed key refused",
+        "on-delete action of a windowed key",
+        |s, k| s.key_byte(k, 15) != 1 || s.key_byte(k, 3) == 0,
+    ),
+    (
+        "RESTRICT on update of a windowed key refused",
+        "on-update action of a windowed key",
+        |s, k| s.key_byte(k, 15) != 1 || s.key_byte(k, 4) == 0,
+    ),
+    (
+        "SET NULL on delete of a windowed key let pass",
+        "on-delete action of a windowed key",
+        |s, k| s.key_byte(k, 15) != 1 || s.key_byte(k, 3) <= 2,
+    ),
+    (
+        "SET NULL on update of a windowed key let pass",
+        "on-update action of a windowed key",
+        |s, k| s.key_byte(k, 15) != 1 || s.key_byte(k, 4) <= 2,
+    ),
+    (
+        "CASCADE on update of a windowed key let pass",
+        "on-update action of a windowed key",
+        |s, k| s.key_byte(k, 15) != 1 || matches!(s.key_byte(k, 4), 0 | 1 | 4),
+    ),
+    (
+        "the actions of a broken windowed key let pass",
+        "on-delete action of a windowed key",
+        |s, k| s.key_byte(k, 15) != 1 || s.key_byte(k, 3) < 2 || s.parent(k) >= s.tables(),
     ),
     ("a key to its own table refused", "child table", |s, k| {
         s.child(k) < s.tables() && s.parent(k) != s.child(k)
@@ -216,6 +283,14 @@ pub const CHANGED: &[Changed] = &[
         },
     ),
 ];
+
+/// Whether the column after the last parent column is there and not in the key.
+fn window_ends(s: View, k: usize) -> bool {
+    let columns = s.parent_columns(k).0;
+    let end = columns.last().map_or(0, |&last| usize::from(last) + 1);
+    let in_key = columns.iter().any(|&column| usize::from(column) == end);
+    parent_columns_exist(s, k) && end < s.columns(s.parent(k)) && !in_key
+}
 
 fn parent_columns_exist(s: View, k: usize) -> bool {
     s.parent(k) < s.tables() && below(s.parent_columns(k).0, s.columns(s.parent(k)))

@@ -53,6 +53,21 @@ pub const WAYS: &[Way] = &[
             key.parent_columns = old;
         }
     }),
+    ("the end of a window missing", |key, tables, _| {
+        let last = parent_of(key, tables).columns - 1;
+        let columns = &key.parent_columns[..key.n()];
+        let place = columns.iter().position(|&column| column == last);
+        if let Some(place) = place.filter(|_| key.n() >= 2) {
+            key.made_windowed(place);
+        }
+    }),
+    ("the end of a window in the key", |key, _, _| {
+        let columns = &key.parent_columns[..key.n()];
+        let in_key = |&column: &u8| columns.contains(&(column + 1));
+        if let Some(place) = columns.iter().position(in_key) {
+            key.made_windowed(place);
+        }
+    }),
 ];
 
 /// Breaks of rules beside broken keys.
@@ -72,12 +87,28 @@ pub const BESIDE: &[Break] = &[
     ("1 in a broken key", 1, |s, r| {
         let key = s.any_key(r);
         key.parent = 255;
-        key.zero = r.edged(1, 255) as u8;
+        key.windowed = r.edged(2, 255) as u8;
     }),
     ("a match above 1 in a broken key", 1, |s, r| {
         let key = s.any_key(r);
         key.parent = 255;
         key.matching = r.edged(2, 255) as u8;
+    }),
+    ("a broken windowed key of one column", 1, |s, r| {
+        let key = s.any_key(r);
+        if key.count == 1 {
+            (key.on_delete, key.on_update) = (0, 0);
+            key.windowed = 1;
+            key.parent = 255;
+        }
+    }),
+    ("another action in a broken windowed key", 1, |s, r| {
+        let key = s.any_key(r);
+        if key.count >= 2 {
+            (key.on_delete, key.on_update) = r.pick(&[(2, 0), (0, 4), (3, 3)]);
+            key.windowed = 1;
+            key.parent = 255;
+        }
     }),
     ("a child table missing in a broken key", 1, |s, r| {
         let tables = s.tables.len();

@@ -18,7 +18,7 @@ pub const HARMLESS: &[Break] = &[
     ("one table and no key", 0, |s, r| *s = valid(r, 1, 0)),
     ("parent columns in another order", 0, |s, r| {
         let key = s.any_key(r);
-        let n = key.n();
+        let n = key.n() - usize::from(key.windowed);
         key.parent_columns[..n].reverse();
     }),
     ("a mask in two slots", 0, |s, _| {
@@ -41,6 +41,25 @@ pub const HARMLESS: &[Break] = &[
     }),
     ("MATCH FULL in every key", 0, |s, _| {
         s.keys.iter_mut().for_each(|key| key.matching = FULL);
+    }),
+    ("windowed in no key", 0, |s, _| {
+        s.keys.iter_mut().for_each(|key| key.windowed = 0);
+    }),
+    ("windowed in every key that has an end", 0, |s, _| {
+        for key in &mut s.keys {
+            let parent = &s.tables[usize::from(key.parent)];
+            let ends = |&place: &usize| key.window_ends(key.parent_columns[place], parent);
+            let place = (0..key.n()).find(ends);
+            if let Some(place) = place.filter(|_| key.n() >= 2) {
+                key.made_windowed(place);
+            }
+        }
+    }),
+    ("the actions of a windowed key", 0, |s, r| {
+        let windowed = s.keys.iter_mut().filter(|key| key.windowed == 1);
+        for key in windowed {
+            (key.on_delete, key.on_update) = (r.between(0, 1) as u8, r.between(0, 1) as u8);
+        }
     }),
     ("another folded mask", 0, |s, r| {
         let t = s.any_table(r);
@@ -84,7 +103,7 @@ pub fn paper() -> Schema {
         child_columns: four(&[1]),
         parent_columns: four(&[0]),
         matching: SIMPLE,
-        zero: 0,
+        windowed: 0,
     };
     Schema::new(8, vec![table, child], vec![key])
 }

@@ -36,7 +36,7 @@ pub struct Key {
     pub child_columns: [u8; 4],
     pub parent_columns: [u8; 4],
     pub matching: u8,
-    pub zero: u8,
+    pub windowed: u8,
 }
 
 #[derive(Clone)]
@@ -143,12 +143,33 @@ impl Key {
         out.extend([self.on_delete, self.on_update, self.count]);
         out.extend(self.child_columns);
         out.extend(self.parent_columns);
-        out.extend([self.matching, self.zero]);
+        out.extend([self.matching, self.windowed]);
     }
 
     /// The column count.
     pub fn n(&self) -> usize {
         self.count.into()
+    }
+
+    /// Whether the parent has an end for windows that begin in this column: the column after it, and
+    /// that is not in the key.
+    pub fn window_ends(&self, first_day: u8, parent: &Table) -> bool {
+        let end = first_day.checked_add(1);
+        end.map_or(false, |end| {
+            end < parent.columns && !self.parent_columns[..self.n()].contains(&end)
+        })
+    }
+
+    /// The key as a windowed one that has its first day in the parent column at this place among
+    /// its columns: that pair becomes the last, and other actions than NO ACTION and RESTRICT one of
+    /// them.
+    pub fn made_windowed(&mut self, place: usize) {
+        let last = self.n() - 1;
+        self.child_columns.swap(place, last);
+        self.parent_columns.swap(place, last);
+        self.on_delete %= 2;
+        self.on_update %= 2;
+        self.windowed = 1;
     }
 
     /// The mask of the parent columns.

@@ -100,7 +100,16 @@ const KEYS: &[Rule] = &[
         distinct(s.parent_columns(k).0)
     }),
     ("match", |s, k| s.key_byte(k, 14) <= 1),
-    ("zero byte of a key", |s, k| s.key_byte(k, 15) == 0),
+    ("windowed", |s, k| s.key_byte(k, 15) <= 1),
+    ("columns of a windowed key", |s, k| {
+        s.key_byte(k, 15) != 1 || s.count(k) >= 2
+    }),
+    ("on-delete action of a windowed key", |s, k| {
+        s.key_byte(k, 15) != 1 || s.key_byte(k, 3) < 2
+    }),
+    ("on-update action of a windowed key", |s, k| {
+        s.key_byte(k, 15) != 1 || s.key_byte(k, 4) < 2
+    }),
 ];
 
 /// Whether the bits of a mask at `columns` and above are 0.

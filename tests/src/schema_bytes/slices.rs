@@ -3,8 +3,8 @@
 use crate::random::Random;
 use crate::schema_bytes::build;
 use crate::schema_bytes::half_drawn::break_some;
-use crate::schema_bytes::records::Table;
-use crate::schema_bytes::valid::{any_valid, four, valid};
+use crate::schema_bytes::records::{Key, Schema, Table};
+use crate::schema_bytes::valid::{any_valid, four, low_bits, valid};
 
 pub struct Family {
     pub name: &'static str,
@@ -60,6 +60,32 @@ pub const FAMILIES: &[Family] = &[
         },
     },
     Family {
+        name: "every number above 1 in byte 15 of a key",
+        count: 254,
+        code: Some(1),
+        make: |r, i| {
+            let columns = r.between(1, 4);
+            of_one_key(r, columns, |key| key.windowed = (2 + i) as u8)
+        },
+    },
+    Family {
+        name: "every column count and pair of actions of a windowed key",
+        count: 20 * 4 * 25,
+        code: None,
+        make: |r, i| {
+            of_one_key(r, 1 + i % 4, |key| {
+                (key.on_delete, key.on_update) = ((i / 4 % 5) as u8, (i / 20 % 5) as u8);
+                key.windowed = 1;
+            })
+        },
+    },
+    Family {
+        name: "windowed keys with their first day in any column",
+        count: 4_000,
+        code: Some(0),
+        make: |r, i| with_first_day(r, 2 + i % 3),
+    },
+    Family {
         name: "valid schemas with some bytes changed",
         count: 70_000,
         code: None,
@@ -113,6 +139,29 @@ fn beside(r: &mut Random, columns: usize, change: impl Fn(&mut Table)) -> Vec<u8
     schema.tables.push(table);
     schema.recount();
     schema.bytes()
+}
+
+/// A schema with a key of so many columns, changed in some way, that refers to the first columns of
+/// a table of eight.
+fn of_one_key(r: &mut Random, columns: usize, change: impl Fn(&mut Key)) -> Vec<u8> {
+    let list: Vec<u8> = (0..columns as u8).collect();
+    let parent = build::table(r.edged(1, 1024) as u16, 8, &[low_bits(columns)]);
+    let mut key = build::key((0, &list), (0, &list), 0, 0);
+    (key.deferred, key.matching) = (r.between(0, 1) as u8, r.between(0, 1) as u8);
+    change(&mut key);
+    Schema::new(r.edged(1, 4096) as u16, vec![parent], vec![key]).bytes()
+}
+
+/// A schema with a windowed key of so many columns to any columns of a table that are a unique key.
+fn with_first_day(r: &mut Random, columns: usize) -> Vec<u8> {
+    let of_parent = r.between(columns, 8) as u8;
+    let mut list: Vec<u8> = (0..of_parent).collect();
+    r.shuffle(&mut list);
+    list.truncate(columns);
+    let mut key = build::windowed(build::key((0, &list), (0, &list), 0, 0));
+    (key.on_delete, key.on_update) = (r.between(0, 1) as u8, r.between(0, 1) as u8);
+    let parent = build::table(r.edged(1, 1024) as u16, of_parent, &[key.parent_mask()]);
+    Schema::new(r.edged(1, 4096) as u16, vec![parent], vec![key]).bytes()
 }
 
 fn with_changes(r: &mut Random) -> Vec<u8> {
@@ -183,7 +232,7 @@ fn random_keys(r: &mut Random) -> Vec<u8> {
         key.on_delete = near(r, key.on_delete, 5);
         key.on_update = near(r, key.on_update, 5);
         key.matching = near(r, key.matching, 2);
-        key.zero = near(r, 0, 1);
+        key.windowed = near(r, key.windowed, 2);
     }
     schema.bytes()
 }

@@ -94,7 +94,7 @@ pub fn key(r: &mut Random, tables: &[Table], parents: &[(usize, u8)]) -> Key {
     let child = r.pick(&children);
     let mut child_columns: Vec<u8> = (0..tables[child].columns).collect();
     r.shuffle(&mut child_columns);
-    Key {
+    let key = Key {
         child: child as u8,
         parent: parent as u8,
         deferred: r.between(0, 1) as u8,
@@ -104,8 +104,20 @@ pub fn key(r: &mut Random, tables: &[Table], parents: &[(usize, u8)]) -> Key {
         child_columns: four(&child_columns[..count]),
         parent_columns: four(&parent_columns),
         matching: r.between(0, 1) as u8,
-        zero: 0,
+        windowed: 0,
+    };
+    windowed(r, key, &tables[parent])
+}
+
+/// The key, every other time as a windowed one where it has several columns and the parent has an end
+/// for windows.
+fn windowed(r: &mut Random, mut key: Key, parent: &Table) -> Key {
+    let ends = |&place: &usize| key.window_ends(key.parent_columns[place], parent);
+    let places: Vec<usize> = (0..key.n()).filter(ends).collect();
+    if key.n() >= 2 && !places.is_empty() && r.once_in(2) {
+        key.made_windowed(r.pick(&places));
     }
+    key
 }
 
 /// The columns, and 255 past them.

@@ -33,6 +33,7 @@ fn every_parent(report: &mut Report) {
     report.test("every parent table", every.tables(&Built));
     report.test("every parent column", every.columns(&Built));
     report.test("every choice of parent columns", every.choices(&Built));
+    report.test("every choice of windows", every.windows(&Built));
     println!(
         "every parent table, column and choice of columns tried: {} whole keys, {} broken",
         every.whole, every.broken

@@ -7,6 +7,7 @@ use crate::random::Random;
 use crate::report::Report;
 use crate::trials::broken_keys;
 use crate::trials::child_rows::ChildRows;
+use crate::trials::every_day::EveryDay;
 use crate::trials::every_parent::EveryParent;
 use crate::trials::folded;
 use crate::trials::half_filled;
@@ -15,30 +16,45 @@ use crate::trials::orphan_lists::OrphanLists;
 use crate::trials::replay::Replay;
 use crate::trials::sqlite::Alike;
 use crate::trials::watched::Watched;
+use crate::trials::windows;
+
+/// No more parts are tried with an engine once so many have caught it.
+const ENOUGH_PARTS: usize = 3;
 
 /// A part's name, and whether it catches an engine.
 type Part = (&'static str, fn(&dyn Engine, &mut Random) -> bool);
 
+/// From the quickest on.
 const PARTS: &[Part] = &[
-    ("single operations", |engine, r| {
-        let mut operations = Operations::new();
-        (0..4_000).any(|_| operations.trial(engine, r).is_err())
-    }),
-    ("changes of parent rows", |engine, r| {
-        let mut child_rows = ChildRows::new();
-        (0..1_000).any(|_| child_rows.trial(engine, r).is_err())
+    ("edge cases", |engine, _| edges::compare(engine).is_err()),
+    ("every day", |engine, _| {
+        let mut every = EveryDay::new();
+        let outcomes = [
+            every.readings(engine),
+            every.windows(engine),
+            every.moves(engine),
+        ];
+        outcomes.iter().any(|outcome| outcome.is_err())
     }),
     ("half-filled keys", |engine, r| {
         let mut half_filled = Watched::new(&half_filled::SORT);
         (0..60).any(|_| half_filled.trial(engine, r).is_err())
     }),
+    ("folded columns", |engine, r| {
+        let mut folded = Watched::new(&folded::SORT);
+        (0..60).any(|_| folded.trial(engine, r).is_err())
+    }),
+    ("windowed keys", |engine, r| {
+        let mut windows = Watched::new(&windows::SORT);
+        (0..100).any(|_| windows.trial(engine, r).is_err())
+    }),
     ("broken keys", |engine, r| {
         let mut broken_keys = Watched::new(&broken_keys::SORT);
         (0..200).any(|_| broken_keys.trial(engine, r).is_err())
     }),
-    ("folded columns", |engine, r| {
-        let mut folded = Watched::new(&folded::SORT);
-        (0..60).any(|_| folded.trial(engine, r).is_err())
+    ("orphan lists", |engine, r| {
+        let mut lists = OrphanLists::new();
+        (0..10).any(|_| lists.trial(engine, r).is_err())
     }),
     ("every parent", |engine, _| {
         let mut every = EveryParent::new();
@@ -46,21 +62,25 @@ const PARTS: &[Part] = &[
             every.tables(engine),
             every.columns(engine),
             every.choices(engine),
+            every.windows(engine),
         ];
         outcomes.iter().any(|outcome| outcome.is_err())
-    }),
-    ("orphan lists", |engine, r| {
-        let mut lists = OrphanLists::new();
-        (0..10).any(|_| lists.trial(engine, r).is_err())
     }),
     ("lists replayed", |engine, r| {
         let mut replay = Replay::new();
         (0..100).any(|_| replay.trial(engine, r).is_err())
     }),
-    ("edge cases", |engine, _| edges::compare(engine).is_err()),
     ("SQLite", |engine, r| {
         let mut alike = Alike::new();
         (0..40).any(|_| alike.trial(engine, r).is_err())
+    }),
+    ("changes of parent rows", |engine, r| {
+        let mut child_rows = ChildRows::new();
+        (0..1_000).any(|_| child_rows.trial(engine, r).is_err())
+    }),
+    ("single operations", |engine, r| {
+        let mut operations = Operations::new();
+        (0..4_000).any(|_| operations.trial(engine, r).is_err())
     }),
 ];
 
@@ -69,7 +89,7 @@ pub fn run(r: &mut Random, report: &mut Report) {
     let mut caught_all = 0;
     for (name, engine) in &engines {
         let parts = PARTS.iter().filter(|part| (part.1)(engine.as_ref(), r));
-        let caught: Vec<&str> = parts.map(|part| part.0).collect();
+        let caught: Vec<&str> = parts.map(|part| part.0).take(ENOUGH_PARTS).collect();
         let outcome = if caught.is_empty() {
             Err("no part of the tests tells it from the paper".into())
         } else {

@@ -16,6 +16,7 @@ mod sqlite;
 mod sqlite_broken;
 mod sqlite_names;
 mod watched;
+mod windows;
 
 use crate::random::Random;
 use crate::report::Report;
@@ -30,6 +31,7 @@ pub const ALL: &[(&str, Suite)] = &[
     ("half_filled", half_filled::run),
     ("broken_keys", broken_keys::run),
     ("folded", folded::run),
+    ("windows", windows::run),
     ("orphan_lists", orphan_lists::run),
     ("replay", replay::run),
     ("edges", edges::run),

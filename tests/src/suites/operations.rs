@@ -20,7 +20,7 @@ const LEAST_OF_A_SITUATION: usize = 3;
 
 /// The codes that a call can be answered by.
 const CODES: &[i64] = &[
-    0, 1, 3, 4, 10, 11, 12, 13, 14, 15, 16, 17, 18, 19, 20, 21, 23,
+    0, 1, 3, 4, 10, 11, 12, 13, 14, 15, 16, 17, 18, 19, 20, 21, 23, 24,
 ];
 
 pub fn run(r: &mut Random, report: &mut Report) {
@@ -57,7 +57,7 @@ fn report_kind(report: &mut Report, kind: i64, of_kind: &OfKind) {
     let forms = search::FORMS.iter().filter(|form| form.1.contains(&kind));
     let conditions: Vec<&str> = forms.map(|form| form.0).collect();
     let counts = [
-        ("by code", of_kind.codes.of(searches::CODES)),
+        ("by code", of_kind.codes.of(searches::codes(kind))),
         ("by rows changed", of_kind.changed.of(searches::CHANGED)),
         ("refused by 4 for", of_kind.broken.of(&conditions)),
     ];

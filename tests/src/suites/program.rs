@@ -23,6 +23,8 @@ const STORED: &[&str] = &[
     "match_of_2",
     "folded",
     "folded_no_column",
+    "windowed",
+    "windowed_of_one",
     "words_8192",
     "words_8193",
 ];
@@ -31,6 +33,8 @@ const RANDOM_INPUTS: usize = 1_500;
 const LEAST_SEARCHES: usize = 10_000;
 const LEAST_BY_23: usize = 500;
 const LEAST_FOLDED: usize = 200;
+const LEAST_WINDOWED: usize = 100;
+const LEAST_BY_24: usize = 200;
 
 pub fn run(r: &mut Random, report: &mut Report) {
     for name in STORED {
@@ -38,40 +42,48 @@ pub fn run(r: &mut Random, report: &mut Report) {
     }
     report.test("hoofrun: the paper's calls cut at each byte", cut());
     let mut outcome = Ok(());
-    let (mut inputs, mut searches, mut by_23, mut folded) = (0, 0, 0, 0);
+    let (mut inputs, mut searches, mut by_23, mut by_24) = (0, 0, 0, 0);
+    let (mut folded, mut windowed) = (0, 0);
     while outcome.is_ok() && inputs < RANDOM_INPUTS {
         let input = random_input(r);
         searches += searches_in(&input);
-        folded += usize::from(has_folded(&input));
+        folded += usize::from(has(&input, Schema::any_folded));
+        windowed += usize::from(has(&input, Schema::any_windowed));
         let printed = against_model(&input);
-        by_23 += printed
-            .iter()
-            .map(|text| refused_by_23(text))
-            .sum::<usize>();
+        if let Ok(text) = &printed {
+            by_23 += refused_by(text, "23,");
+            by_24 += refused_by(text, "24,");
+        }
         outcome = printed.map(drop);
         inputs += 1;
     }
     println!(
-        "{} random inputs of hoofrun compared with the model, {} with folded columns: {} calls of \
-         kinds 10 and 11, {} calls refused by 23",
-        inputs, folded, searches, by_23
+        "{} random inputs of hoofrun compared with the model, {} with folded columns, {} with windowed \
+         keys: {} calls of kinds 10 and 11, {} calls refused by 23, {} by 24",
+        inputs, folded, windowed, searches, by_23, by_24
     );
     report.test("hoofrun: random inputs", outcome);
     let name = "hoofrun: calls of kinds 10 and 11";
     report.at_least(name, LEAST_SEARCHES, searches);
     report.at_least("hoofrun: calls refused by 23", LEAST_BY_23, by_23);
+    report.at_least("hoofrun: calls refused by 24", LEAST_BY_24, by_24);
     report.at_least("hoofrun: inputs with folded columns", LEAST_FOLDED, folded);
+    report.at_least(
+        "hoofrun: inputs with windowed keys",
+        LEAST_WINDOWED,
+        windowed,
+    );
 }
 
-/// Whether an input has an accepted schema with folded columns.
-fn has_folded(input: &[u8]) -> bool {
+/// Whether an input has an accepted schema that is so.
+fn has(input: &[u8], is_so: fn(&Schema) -> bool) -> bool {
     let schema = Schema::read(&input[..schema_length(input)]);
-    schema.map_or(false, |schema| schema.any_folded())
+    schema.map_or(false, |schema| is_so(&schema))
 }
 
-/// How many lines of a printed text are those of refusal 23.
-fn refused_by_23(text: &str) -> usize {
-    text.lines().filter(|line| line.starts_with("23,")).count()
+/// How many lines of a printed text begin with this code.
+fn refused_by(text: &str, code: &str) -> usize {
+    text.lines().filter(|line| line.starts_with(code)).count()
 }
 
 fn read(name: &str) -> Result<String, String> {

@@ -23,6 +23,15 @@ const LEAST_PARENTS_ENTERED: usize = 50;
 const LEAST_FOLDED: usize = 200;
 const LEAST_RESPELLING: usize = 200;
 
+/// How many lists on schemas with windowed keys there are to be, how many calls of each code, and how
+/// many calls that move a window striking out leaves and does not.
+const LEAST_WINDOWED: usize = 200;
+const LEAST_OF_A_CODE: usize = 50;
+const LEAST_MOVING: usize = 200;
+
+/// The codes of calls on areas reached from fresh ones.
+const CODES: &[i64] = &[0, 4, 11, 12, 15, 16, 17, 18, 20, 21, 23, 24];
+
 pub fn run(r: &mut Random, report: &mut Report) {
     let mut replay = Replay::new();
     let mut outcome = Ok(());
@@ -51,6 +60,10 @@ pub fn run(r: &mut Random, report: &mut Report) {
          out",
         replay.folded, replay.respelling, replay.respelling_left
     );
+    println!(
+        "{} lists on schemas with windowed keys: {} calls move a window, {} left by striking out",
+        replay.windowed, replay.moving, replay.moving_left
+    );
     report.test("lists replayed", outcome);
     report.at_least("lists", LEAST_LISTS, replay.lists);
     report.at_least(
@@ -61,6 +74,7 @@ pub fn run(r: &mut Random, report: &mut Report) {
     report_struck(report, &replay);
     report_broken(report, &replay);
     report_folded(report, &replay);
+    report_windowed(report, &replay);
 }
 
 /// What striking out left, and what it did not.
@@ -107,4 +121,19 @@ fn report_folded(report: &mut Report, replay: &Replay) {
     ] {
         report.at_least(&format!("replayed: {}", name), least, count);
     }
+}
+
+/// What was met on schemas with windowed keys.
+fn report_windowed(report: &mut Report, replay: &Replay) {
+    let (left, all) = (replay.moving_left, replay.moving);
+    for (name, least, count) in [
+        ("lists on windowed keys", LEAST_WINDOWED, replay.windowed),
+        ("windows moved left", LEAST_MOVING, left),
+        ("windows moved struck", LEAST_MOVING, all - left),
+    ] {
+        report.at_least(&format!("replayed: {}", name), least, count);
+    }
+    let codes = replay.codes_of_windowed.of(CODES);
+    let title = "replayed on windowed keys by code";
+    report.counts(title, LEAST_OF_A_CODE, &codes);
 }

@@ -25,6 +25,9 @@ const LEAST_OF_A_CODE: usize = 1_000;
 /// How many columns of a table are folded.
 const FOLDED: &[&str] = &["none", "some", "all"];
 
+/// The forms of a windowed key that is not broken: how many columns it has.
+const WINDOWED: &[&str] = &["of 2", "of 3", "of 4"];
+
 /// The forms of a foreign key: its match, and how many columns it has.
 const FORMS: &[&str] = &[
     "SIMPLE of 1",
@@ -44,6 +47,7 @@ pub fn run(r: &mut Random, report: &mut Report) {
         codes: [0; 2],
         folded: Counts::default(),
         keys: Counts::default(),
+        windowed: Counts::default(),
         broken: Counts::default(),
     };
     for (name, code, change) in breaks::all() {
@@ -68,6 +72,11 @@ pub fn run(r: &mut Random, report: &mut Report) {
         &judge.keys.of(FORMS),
     );
     report.counts(
+        "accepted windowed keys",
+        LEAST_OF_A_CODE,
+        &judge.windowed.of(WINDOWED),
+    );
+    report.counts(
         "accepted broken foreign keys",
         LEAST_OF_A_CODE,
         &judge.broken.of(broken_by::CAUSES),
@@ -86,6 +95,8 @@ struct Judge {
     folded: Counts<&'static str>,
     /// How many foreign keys of accepted slices had each form.
     keys: Counts<&'static str>,
+    /// How many of them were windowed and not broken, by how many columns they had.
+    windowed: Counts<&'static str>,
     /// How many of them were broken, by what breaks them.
     broken: Counts<&'static str>,
 }
@@ -178,6 +189,9 @@ impl Judge {
         for key in &schema.keys {
             let of_match = 4 * usize::from(key.matching == Match::Full);
             self.keys.add(FORMS[of_match + key.child_columns.len() - 1]);
+            if key.window.is_some() && !key.broken {
+                self.windowed.add(WINDOWED[key.child_columns.len() - 2]);
+            }
             if key.broken {
                 let by = broken_by::of(schema, key).into_iter();
                 by.for_each(|name| self.broken.add(name));

@@ -1,6 +1,6 @@
 //! By what a foreign key is broken.
 
-use crate::model::schema::{same, Key, Schema};
+use crate::model::schema::{has_unique, same, Key, Schema};
 
 pub const CAUSES: &[&str] = &[
     "a parent table missing",
@@ -9,6 +9,8 @@ pub const CAUSES: &[&str] = &[
     "a part of a unique key",
     "more than a unique key",
     "as many other columns as a unique key",
+    "the end of a window missing",
+    "the end of a window in the key",
 ];
 
 /// What breaks the key, more than one where there are several unique keys.
@@ -22,6 +24,12 @@ pub fn of(schema: &Schema, key: &Key) -> Vec<&'static str> {
     }
     if parent.unique.is_empty() {
         return vec![CAUSES[2]];
+    }
+    if let Some(window) = key
+        .window
+        .filter(|_| has_unique(parent, &key.parent_columns))
+    {
+        return vec![CAUSES[if window.end < parent.columns { 7 } else { 6 }]];
     }
     let own = &key.parent_columns;
     let within = |one: &[usize], other: &[usize]| one.iter().all(|column| other.contains(column));

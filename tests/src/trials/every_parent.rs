@@ -1,5 +1,5 @@
-//! Every parent table, every parent column, and every choice of up to three columns beside every
-//! pair of unique keys. Whether the foreign key is broken is told by an insert of a child row with
+//! Every parent table, every parent column, every choice of up to three columns beside every pair of
+//! unique keys, and every choice of two columns of a windowed key. Whether the foreign key is broken is told by an insert of a child row with
 //! NULL in its key.
 
 use super::compared;
@@ -7,8 +7,8 @@ use crate::engine::Engine;
 use crate::inputs::calls::row_call;
 use crate::model::schema::Schema;
 use crate::model::Model;
-use crate::schema_bytes::build::{key, table, NO_ACTION};
-use crate::schema_bytes::records::{Schema as Records, Table};
+use crate::schema_bytes::build::{key, table, windowed, NO_ACTION};
+use crate::schema_bytes::records::{Key, Schema as Records, Table};
 
 type Outcome = Result<(), String>;
 
@@ -72,7 +72,26 @@ impl EveryParent {
         Ok(())
     }
 
-    /// Enters a row of table 0 with NULL in every column, of which the first refer to the parent.
+    /// Every choice of two columns of a windowed key beside every number of columns: it is whole if the
+    /// column after the second is there and is not the first.
+    pub fn windows(&mut self, engine: &dyn Engine) -> Outcome {
+        for count in 2..=8 {
+            for (other, first_day) in (0..64).map(|both| (both / 8, both % 8)) {
+                if other == first_day || other.max(first_day) >= count {
+                    continue;
+                }
+                let unique = 1 << other | 1 << first_day;
+                let tables = vec![table(1, 2, &[]), table(1, count, &[unique])];
+                let parent = (1, &[other, first_day][..]);
+                let own = windowed(key((0, &[0, 1]), parent, NO_ACTION, NO_ACTION));
+                let end = first_day + 1;
+                self.enter(engine, tables, own, end < count && end != other)?;
+            }
+        }
+        Ok(())
+    }
+
+    /// A key whose first columns of table 0 refer to the parent.
     fn key(
         &mut self,
         engine: &dyn Engine,
@@ -82,15 +101,21 @@ impl EveryParent {
     ) -> Outcome {
         let child_columns: Vec<u8> = (0..parent.1.len() as u8).collect();
         let own = key((0, &child_columns), parent, NO_ACTION, NO_ACTION);
+        self.enter(engine, tables, own, whole)
+    }
+
+    /// Enters a row of table 0 with NULL in every column, under a key of that table.
+    fn enter(&mut self, engine: &dyn Engine, tables: Vec<Table>, own: Key, whole: bool) -> Outcome {
         let row = vec![None; tables[0].columns.into()];
-        let bytes = Records::new(1, tables, vec![own]).bytes();
+        let bytes = Records::new(1, tables, vec![own.clone()]).bytes();
         let schema = Schema::read(&bytes).map_err(|code| format!("refused by {}", code))?;
         let area = vec![0; schema.area_words()];
         let insert = row_call(1, 0, 0, &row);
         let (answer, _) = compared::call(engine, &self.model, (&bytes, &area, &insert))?;
         let expected = if whole { 0 } else { 23 };
         if answer.code != expected {
-            return Err(format!("{:?}: {}, and not {}", parent, answer, expected));
+            let columns = own.parent_columns;
+            return Err(format!("{:?}: {}, and not {}", columns, answer, expected));
         }
         self.whole += usize::from(whole);
         self.broken += usize::from(!whole);

@@ -7,7 +7,7 @@ use crate::model::area::Area;
 use crate::model::change::Kind;
 use crate::model::folding::{compared, folded};
 use crate::model::form::Call;
-use crate::model::keys::{equal, full, having};
+use crate::model::keys::{equal, full, having, maps};
 use crate::model::rules::Rules;
 use crate::model::schema::{Action, Key, Row, Schema, Table, Value};
 use crate::model::search::Search;
@@ -61,7 +61,7 @@ pub fn parent_keys(area: &Area, key: &Key) -> Vec<Row> {
 pub fn has_parent(key: &Key, child_key: &Row, parent_keys: &[Row]) -> bool {
     let wanted = key.compared(child_key);
     let mut parents = parent_keys.iter();
-    parents.any(|parent| equal(&wanted, &key.compared(parent)))
+    parents.any(|parent| maps(key, &wanted, &key.compared(parent)))
 }
 
 /// Whether two keys of a foreign key are equal and not spelled alike.
@@ -81,7 +81,7 @@ impl<'a> Seen<'a> {
     pub fn new(rules: &Rules, made: &'a Made<'a>) -> Seen<'a> {
         let mut after = made.after.clone();
         let (mut steps, mut fired) = (Vec::new(), Vec::new());
-        if matches!(made.code, 0 | 14..=20 | 23) {
+        if matches!(made.code, 0 | 14..=20 | 23 | 24) {
             let mut area = made.before.clone();
             let trace = Trace::new(rules, &mut area, &made.call);
             (steps, fired) = (trace.steps, trace.fired);

@@ -8,7 +8,7 @@ use crate::counts::Counts;
 use crate::differences::{hex, words};
 use crate::engine::Engine;
 use crate::inputs::grounds::{self, Ground};
-use crate::inputs::{areas, broken_key_calls, damages, malformed, other_schemas};
+use crate::inputs::{areas, damages, malformed, other_schemas, window_calls};
 use crate::model::Model;
 use crate::random::Random;
 
@@ -40,7 +40,7 @@ impl Operations {
     pub fn trial(&mut self, engine: &dyn Engine, r: &mut Random) -> Outcome {
         let (ground, mut area, turns, origin) = start(r);
         for _ in 0..turns {
-            let mut call = broken_key_calls::now_and_then(r, &ground, &area);
+            let mut call = window_calls::now_and_then(r, &ground, &area);
             if r.once_in(8) {
                 call = malformed::spoiled(r, &ground, call);
             }
@@ -53,7 +53,7 @@ impl Operations {
     /// Operations that leave the area of the trial as it is.
     fn beside(&mut self, engine: &dyn Engine, r: &mut Random, g: &Ground, area: &[i64]) -> Outcome {
         let damaged = damages::damaged(r, g, area);
-        let call = broken_key_calls::now_and_then(r, g, &damaged);
+        let call = window_calls::now_and_then(r, g, &damaged);
         self.call(engine, (&g.bytes, &damaged, &call), Origin::Damaged)?;
         if r.once_in(10) {
             let area = damages::of_wrong_length(r, area);

@@ -1,6 +1,7 @@
 //! Demand 3 on an engine: a list of calls, and what striking out leaves of it, end alike.
 
 use super::searches::is_search;
+use crate::counts::Counts;
 use crate::differences::{first_words, hex};
 use crate::engine::{Answer, Engine};
 use crate::inputs::calls::plain_call;
@@ -39,6 +40,12 @@ pub struct Replay {
     pub folded: usize,
     pub respelling: usize,
     pub respelling_left: usize,
+    /// How many lists were on schemas with windowed keys, how often calls had each code there, and how
+    /// many accepted calls moved a window and were left, or not.
+    pub windowed: usize,
+    pub codes_of_windowed: Counts<i64>,
+    pub moving: usize,
+    pub moving_left: usize,
 }
 
 /// A list of calls and the answers to it.
@@ -47,8 +54,9 @@ struct Run {
     codes: Vec<i64>,
     answers: Vec<Answer>,
     area: Vec<i64>,
-    /// The numbers of the calls that spelled a row otherwise.
+    /// The numbers of the calls that spelled a row otherwise, and of those that moved a window.
     respelling: Vec<usize>,
+    moving: Vec<usize>,
 }
 
 impl Replay {
@@ -70,6 +78,10 @@ impl Replay {
             folded: 0,
             respelling: 0,
             respelling_left: 0,
+            windowed: 0,
+            codes_of_windowed: Counts::default(),
+            moving: 0,
+            moving_left: 0,
         }
     }
 
@@ -95,7 +107,18 @@ impl Replay {
         self.respelling += run.respelling.len();
         let respelling_left = left.iter().filter(|n| run.respelling.contains(n));
         self.respelling_left += respelling_left.count();
+        if ground.schema.any_windowed() {
+            self.count_windowed(&run, &left);
+        }
         second_run(engine, &ground, &run, &left)
+    }
+
+    fn count_windowed(&mut self, run: &Run, left: &[usize]) {
+        self.windowed += 1;
+        let codes = run.codes.iter();
+        codes.for_each(|&code| self.codes_of_windowed.add(code));
+        self.moving += run.moving.len();
+        self.moving_left += left.iter().filter(|n| run.moving.contains(n)).count();
     }
 
     fn count_half_filling(&mut self, schema: &Schema, run: &Run, left: &[usize]) {
@@ -124,7 +147,7 @@ impl Replay {
     ) -> Result<Run, String> {
         let (mut area, mut beside) = (made_fresh(engine, ground)?, ground.fresh());
         let (mut calls, mut codes, mut answers) = (Vec::new(), Vec::new(), Vec::new());
-        let mut respelling = Vec::new();
+        let (mut respelling, mut moving) = (Vec::new(), Vec::new());
         for _ in 0..r.between(20, 200) {
             let mut call = mixed_calls::any(r, ground, &beside);
             if r.once_in(25) {
@@ -135,6 +158,9 @@ impl Replay {
             let code = self.model.call(&ground.bytes, &mut beside, &call).code;
             if code == 0 && respells(ground, &before, &beside) {
                 respelling.push(calls.len());
+            }
+            if code == 0 && moves_window(ground, &before, &beside) {
+                moving.push(calls.len());
             }
             codes.push(code);
             calls.push(call);
@@ -152,6 +178,7 @@ impl Replay {
             answers,
             area,
             respelling,
+            moving,
         })
     }
 
@@ -204,6 +231,20 @@ fn respells(ground: &Ground, before: &[i64], after: &[i64]) -> bool {
             let new = after.row(number, row).unwrap_or_default();
             let equal = compared_key(&table.marks, &old) == compared_key(&table.marks, &new);
             equal && old != new
+        })
+    })
+}
+
+/// Whether a live row comes to have another window under a windowed key that is not broken.
+fn moves_window(ground: &Ground, before: &[i64], after: &[i64]) -> bool {
+    let keys = ground.schema.keys.iter();
+    let mut keys = keys.filter(|key| key.window.is_some() && !key.broken);
+    keys.any(|key| {
+        let [before, after] = [before, after].map(|words| ground.area(words));
+        let mut rows = before.live_rows(key.parent).into_iter();
+        rows.any(|(number, old)| {
+            let new = after.row(key.parent, number);
+            new.map_or(false, |new| key.parent_key(&new) != key.parent_key(&old))
         })
     })
 }

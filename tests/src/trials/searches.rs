@@ -11,8 +11,16 @@ use crate::model::rules::Rules;
 use crate::model::schema::Schema;
 use crate::model::search::Search;
 
-/// The codes that such a call can be answered by.
-pub const CODES: &[i64] = &[0, 1, 3, 4, 10, 14, 15, 16, 17, 18, 19, 20, 23];
+/// The codes that such a call can be answered by, but for what actions of a deletion seldom lead to.
+const CODES: &[i64] = &[0, 1, 3, 4, 10, 14, 15, 16, 17, 18, 19, 20, 23, 24];
+
+/// The codes that a call of this kind is often answered by: a deletion passes 24.
+pub fn codes(kind: i64) -> &'static [i64] {
+    match kind {
+        10 => &CODES[..CODES.len() - 1],
+        _ => CODES,
+    }
+}
 
 /// How many rows an accepted call changes.
 pub const CHANGED: &[&str] = &["none", "one", "two or more"];

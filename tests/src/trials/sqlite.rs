@@ -105,12 +105,13 @@ impl Alike {
             1 | 2 => herds::ground(r),
             3..=6 => grounds::collisions(r),
             _ => {
-                let ground = folded::ground(r, spellings::PRINTABLE).of_match_simple();
+                let ground = folded::ground(r, spellings::PRINTABLE);
+                let ground = ground.of_match_simple().unwindowed();
                 let database = Database::of_names(&ground.schema);
                 return self.calls(engine, r, (&ground, database), folded_calls::any);
             }
         };
-        let ground = ground.of_match_simple().unfolded();
+        let ground = ground.of_match_simple().unfolded().unwindowed();
         let database = Database::new(&ground.schema);
         self.calls(engine, r, (&ground, database), |r, ground, words| {
             if r.once_in(3) {
@@ -366,7 +367,7 @@ const ROW_ORDERS: [Order; 3] = [
     },
     |rules| {
         rules.turns = having;
-        rules.equal = |_, _| true;
+        rules.maps = |_, _, _| true;
         rules.met = search::listed;
     },
 ];

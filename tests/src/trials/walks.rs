@@ -42,7 +42,7 @@ impl Walks {
         origin: Origin,
     ) {
         let changes_rows = call.len() == 12 && matches!(call[0], 2 | 3 | 10 | 11);
-        if !changes_rows || !matches!(answer.code, 0 | 14..=18 | 23) {
+        if !changes_rows || !matches!(answer.code, 0 | 14..=18 | 23 | 24) {
             return;
         }
         let schema = Schema::read(schema).expect("it was not refused by 1");
@@ -110,7 +110,9 @@ impl Watch<'_> {
                 Ok(()) => &mut self.done,
                 Err(_) => &mut self.refused,
             };
-            shown.extend(seen.shown());
+            if walk.key.window.is_none() {
+                shown.extend(seen.shown());
+            }
             outcome?;
         }
         Ok(())

@@ -1,0 +1,50 @@
+//! Calls and orphan lists on schemas with windowed keys.
+
+use super::origins::Origin;
+use super::watched::{Sort, Start};
+use super::window_lists;
+use super::window_seen::Seen;
+use super::window_situations;
+use crate::inputs::grounds::Ground;
+use crate::inputs::{damages, window_calls, windows};
+use crate::random::Random;
+
+pub const SORT: Sort = Sort {
+    start,
+    damaged,
+    shown: |rules, made| window_situations::shown(&Seen::new(rules, made)),
+    shown_by_list: window_lists::shown,
+};
+
+fn start(r: &mut Random) -> Start {
+    if r.once_in(12) {
+        let (ground, area) = windows::chained(r);
+        return Start {
+            ground,
+            area,
+            origin: Origin::Reached,
+            call: window_calls::on_chain,
+        };
+    }
+    let ground = windows::ground(r);
+    let (area, origin) = if r.between(0, 4) < 2 {
+        (windows::filled(r, &ground), Origin::Filled)
+    } else {
+        (windows::reached(r, &ground), Origin::Reached)
+    };
+    Start {
+        ground,
+        area,
+        origin,
+        call: window_calls::any,
+    }
+}
+
+/// A copy with damaged windows, or with other damages.
+fn damaged(r: &mut Random, ground: &Ground, area: &[i64]) -> Vec<i64> {
+    if r.once_in(3) {
+        damages::mostly_rows(r, ground, area)
+    } else {
+        windows::damaged(r, ground, area)
+    }
+}
