@@ -4,6 +4,7 @@ from functools import partial
 
 from inputs import BEGIN, DELETE, INSERT, ROLLBACK, UPDATE, Calls
 from loads import trims_text
+from windows import CALIBRATIONS, READINGS, SLOT, windows_text
 
 ROWS = (32, 128, 512, 1024)
 BATCH = 8  # statements of a transaction, which is rolled back
@@ -22,6 +23,29 @@ STATEMENTS = {
     "delete horse": (DELETE, HORSES, lambda r: []),
 }
 
+WINDOWS = 50  # calibrations of a sensor
+
+
+def calibration(row, days=SLOT - 4):
+    """The calibration of a row, in force for so many days."""
+    sensor, place = divmod(row, WINDOWS)
+    return [sensor, SLOT * place, SLOT * place + days]
+
+
+def reading_in(row):
+    """A reading of the last day of a row's calibration."""
+    sensor, _, end = calibration(row)
+    return [sensor, end - 1]
+
+
+# Likewise; SQLite keeps the rules of the windowed key by triggers. The last calibrations have no readings.
+WINDOW_STATEMENTS = {
+    "insert reading": (INSERT, READINGS, lambda r: reading_in(r // 2)),
+    "insert calibration": (INSERT, CALIBRATIONS, calibration),
+    "move its end": (UPDATE, CALIBRATIONS, lambda r: calibration(r, SLOT)),
+    "delete calibration": (DELETE, CALIBRATIONS, lambda r: []),
+}
+
 # The horse that is sought in an update of all its trims; no trim has it.
 SEARCHES = {"find no trim": -1, "find no NULL": None}
 
@@ -37,19 +61,30 @@ def filled(rows):
     return calls
 
 
+def filled_windows(rows):
+    """Likewise calibrations, and readings of the first half of them."""
+    calls = Calls(windows_text(rows, rows, BATCH, number=""))
+    live = rows - BATCH
+    for row in range(live):
+        calls.add(INSERT, CALIBRATIONS, row, calibration(row))
+    for row in range(live):
+        calls.add(INSERT, READINGS, row, reading_in(row % (live // 2)))
+    return calls
+
+
 def add_statement(calls, rows, statement, i):
     """The statement of number i in its transaction."""
     if statement in SEARCHES:
         calls.add_where(TRIMS, (HORSE, SEARCHES[statement]), (HORSE, 0))
     else:
-        kind, table, values = STATEMENTS[statement]
+        kind, table, values = (STATEMENTS | WINDOW_STATEMENTS)[statement]
         row = rows - 1 - i if kind == INSERT else rows - BATCH - 1 - i
         calls.add(kind, table, row, values(row))
 
 
 def growing_book(rows, statement):
     """The calls that fill the tables, and what adds a statement of a given number to them."""
-    calls = filled(rows)
+    calls = filled_windows(rows) if statement in WINDOW_STATEMENTS else filled(rows)
     return calls, partial(add_statement, calls, rows, statement)
 
 
@@ -82,7 +117,7 @@ def cost(sides, book):
 def print_growth(sides):
     """Two lines for each statement, hoofrun's and SQLite's cost at each number of rows."""
     print(f"{'nanoseconds a statement':32}" + "".join(f"{f'R = {rows:,}':>12}" for rows in ROWS))
-    for statement in (*STATEMENTS, *SEARCHES):
+    for statement in (*STATEMENTS, *SEARCHES, *WINDOW_STATEMENTS):
         costs = zip(*[cost(sides, partial(growing_book, rows, statement)) for rows in ROWS])
         for side, line in zip(("hoofrun", "SQLite"), costs):
             print(f"{statement:20}{side:12}" + "".join(f"{ns:12,.0f}" for ns in line), flush=True)

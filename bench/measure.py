@@ -14,10 +14,11 @@ from readings import NUMBER, VALUE, Kit, readings
 from scans import print_scans
 from sides import Sides
 from ties import ties
+from windows import RESTRICT, Calibrated, calibrated, one_window
 
 
 def loads(count):
-    """Pairs of a name and the calls; a star marks an input made for SQLite to win."""
+    """Pairs of a name and the calls; a star: made for SQLite to win; a plus: SQLite works by triggers."""
     yield "30 rows, autocommit", autocommit(Yard(trims_text(30, 30, 64), 1), count)
     yield "30 rows, transactions", transactions(Yard(trims_text(30, 30, 128), 2), count, 24)
     yield "200 rows, autocommit", autocommit(Yard(trims_text(200, 200, 64), 3), count)
@@ -41,6 +42,9 @@ def loads(count):
     yield "the same in one spelling", autocommit(plain, count)
     folded_pairs = NamedPairs(pairs_text(250, 900, 64, match="simple", folded="folded"), 23)
     yield "folded pairs, autocommit", autocommit(folded_pairs, count)
+    yield "+ calibration windows", calibrated(Calibrated(24, 18, 50), Calibrated.statement, count)
+    restrict = Calibrated(25, 18, 50, RESTRICT)
+    yield "+ windows, transactions", calibrated(restrict, Calibrated.transaction, count)
     yield "* 32 equal keys, 900 rows", autocommit(Yard(trims_text(900, 900, 64, keys=32), 7), count)
     two_columns = Yard(two_columns_text(900, 900, 150), 8, yard_column=True)
     yield "* constant first column", autocommit(two_columns, count)
@@ -54,6 +58,9 @@ def loads(count):
     yield "* 500 rows follow a name", herd(Named(names_text(4, 500, 510), 22), count)
     yield "* one reading or none found", readings(Kit(NUMBER, 15), Kit.single_readings, count)
     yield "* half-drawn, half refused", autocommit(HalfDrawn(20, 0.5), count)
+    one_sensor = Calibrated(26, 1, 900)
+    yield "*+ one sensor, 900 windows", calibrated(one_sensor, Calibrated.statement, count)
+    yield "*+ 500 readings in a window", one_window(count)
 
 
 def print_loads(sides, count):
@@ -67,7 +74,8 @@ def print_loads(sides, count):
         print(f"{name:30}{len(calls):8,}{sides.changed:9,}{rates}{theirs / ours:8.2f}", flush=True)
     mean = math.exp(sum(logarithms) / len(logarithms))
     print(f"{'geometric mean':73}{mean:8.2f}")
-    print(f"* made for SQLite to win. SQLite is {sides.version}, in memory.")
+    print("* made for SQLite to win. + SQLite has no windowed key: triggers do its work there.")
+    print(f"SQLite is {sides.version}, in memory.")
 
 
 def main():

@@ -14,6 +14,9 @@
 // orphan. All keys must have the same child table.
 //
 // The schema is taken for valid, and both columns of a key's pair are folded or neither is.
+//
+// SQLite has no windowed key. The same rules are triggers, which judge each row: so a statement changes one
+// parent row of such a key, which is immediate, not broken, and has no NULL and no folded day in its parent.
 #include "side.h"
 
 #include <sqlite3.h>
@@ -41,6 +44,8 @@ static record key_record(int k) { return key_records + KEY_BYTES * k; }
 static int row_count(int t) { return field16(table_record(t)); }
 static int column_count(int t) { return table_record(t)[2]; }
 static int is_folded(int t, int column) { return table_record(t)[9] >> column & 1; }
+static int is_not_null(int t, int column) { return table_record(t)[3] >> column & 1; }
+static int is_windowed(record key) { return key[15]; }
 
 static void stop(const char *where) {
     fprintf(stderr, "sqlite_side: %s: %s\n", where, db ? sqlite3_errmsg(db) : "no database");
@@ -118,7 +123,7 @@ static void add_column_definitions(int t) {
     record table = table_record(t);
     for (int c = 0; c < column_count(t); c++) {
         add(",c%d %s", c, is_folded(t, c) ? "TEXT COLLATE NOCASE" : "INTEGER");
-        if (table[3] >> c & 1) add(" NOT NULL");
+        if (is_not_null(t, c)) add(" NOT NULL");
         if (table[8] >> c & 1) add(" DEFAULT NULL");
         else add_default(t, c);
     }
@@ -147,7 +152,7 @@ static void create_table(int t) {
         add_columns(columns, count);
     }
     for (int k = key_count - 1; k >= 0; k--)
-        if (key_record(k)[0] == t) add_foreign_key(key_record(k));
+        if (key_record(k)[0] == t && !is_windowed(key_record(k))) add_foreign_key(key_record(k));
     add(")");
     execute(sql);
 }
@@ -180,6 +185,150 @@ static void create_indexes(void) {
         add("CREATE INDEX i%d ON t%d", k, key_record(k)[0]);
         add_columns(key_record(k) + 6, key_record(k)[5]);
         execute(sql);
+    }
+}
+
+// Columns of a windowed key: the last one of the child, the last one of the parent, and the one after it.
+static int day_column(record key) { return key[6 + key[5] - 1]; }
+static int first_column(record key) { return key[10 + key[5] - 1]; }
+static int end_column(record key) { return first_column(key) + 1; }
+
+// The triggers are right for such keys only.
+static void require_plain_window(record key) {
+    int parent = key[1], end = end_column(key);
+    if (key[2] || parent >= table_count || end >= column_count(parent)) stop("windowed key deferred or broken");
+    if (!is_not_null(parent, end)) stop("windowed key with NULL in its parent");
+    if (is_folded(parent, first_column(key)) || is_folded(parent, end)) stop("windowed key with a folded day");
+    for (int i = 0; i < key[5]; i++) {
+        if (key[10 + i] == end) stop("windowed key broken");
+        if (!is_not_null(parent, key[10 + i])) stop("windowed key with NULL in its parent");
+    }
+}
+
+static void start_trigger(int k, int t, const char *event) {
+    sql_start();
+    add("CREATE TRIGGER w%d_t%d_%s AFTER %s ON t%d ", k, t, event, event, t);
+}
+
+static void end_trigger(void) {
+    add("; END");
+    execute(sql);
+}
+
+// 'cX=ROW.cY AND ..' for all pairs but the days: of the row sought its columns in the key at byte 6 or 10, those
+// of the child or of the parent, and likewise of the row at hand.
+static void add_others_equal(record key, int sought_at, const char *row, int row_at) {
+    for (int i = 0; i < key[5] - 1; i++) add("c%d=%s.c%d AND ", key[sought_at + i], row, key[row_at + i]);
+}
+
+static void add_changed(int column) { add("NEW.c%d IS NOT OLD.c%d", column, column); }
+
+// The windows of a parent share no day: a day is in the latest one that has begun by then, or in none.
+static void add_orphan_check(record key) {
+    int day = day_column(key), first = first_column(key);
+    add(" BEGIN SELECT RAISE(ABORT,'orphan') WHERE IFNULL((SELECT c%d FROM t%d WHERE ", end_column(key), key[1]);
+    add_others_equal(key, 10, "NEW", 6);
+    add("c%d<=NEW.c%d ORDER BY c%d DESC LIMIT 1)<=NEW.c%d,1)", first, day, first, day);
+}
+
+static void add_child_filled(record key) {
+    add("WHEN ");
+    for (int i = 0; i < key[5]; i++) add("%sNEW.c%d IS NOT NULL", i ? " AND " : "", key[6 + i]);
+}
+
+static void add_child_changed(record key) {
+    for (int i = 0; i < key[5]; i++) {
+        add(i ? " OR " : " AND (");
+        add_changed(key[6 + i]);
+    }
+    add(")");
+}
+
+static void create_child_triggers(int k) {
+    record key = key_record(k);
+    start_trigger(k, key[0], "INSERT");
+    add_child_filled(key);
+    add_orphan_check(key);
+    end_trigger();
+    start_trigger(k, key[0], "UPDATE");
+    add_child_filled(key);
+    add_child_changed(key);
+    add_orphan_check(key);
+    end_trigger();
+}
+
+// 24: the new window has no day, or shares one with the window before it or with the one after it.
+static void add_window_check(record key) {
+    int first = first_column(key), end = end_column(key);
+    add("SELECT RAISE(ABORT,'window') WHERE NEW.c%d<=NEW.c%d", end, first);
+    add(" OR (SELECT c%d FROM t%d WHERE ", end, key[1]);
+    add_others_equal(key, 10, "NEW", 10);
+    add("c%d<NEW.c%d ORDER BY c%d DESC LIMIT 1)>NEW.c%d", first, first, first, first);
+    add(" OR (SELECT c%d FROM t%d WHERE ", first, key[1]);
+    add_others_equal(key, 10, "NEW", 10);
+    add("c%d>NEW.c%d ORDER BY c%d LIMIT 1)<NEW.c%d", first, first, first, end);
+}
+
+// The first half of 'a child row has a day of the old window that ..'; the days follow.
+static void add_child_exists(record key) {
+    add("EXISTS(SELECT 1 FROM t%d WHERE ", key[0]);
+    add_others_equal(key, 6, "OLD", 10);
+}
+
+static void add_child_of_old(record key) {
+    add_child_exists(key);
+    add("c%d>=OLD.c%d AND c%d<OLD.c%d)", day_column(key), first_column(key), day_column(key), end_column(key));
+}
+
+// A child row of the old window is not in the new one. No other window has its day, so it is an orphan: NO ACTION
+// refuses the same calls as RESTRICT. Only days that the window has lost are looked at.
+static void add_left_out(record key) {
+    int day = day_column(key), first = first_column(key), end = end_column(key);
+    add("SELECT RAISE(ABORT,'left out') WHERE ");
+    for (int i = 0; i < key[5] - 1; i++) {
+        add_changed(key[10 + i]);
+        add(" AND ");
+        add_child_of_old(key);
+        add(" OR ");
+    }
+    add("NEW.c%d>OLD.c%d AND ", first, first);
+    add_child_exists(key);
+    add("c%d>=OLD.c%d AND c%d<min(OLD.c%d,NEW.c%d)) OR ", day, first, day, end, first);
+    add("NEW.c%d<OLD.c%d AND ", end, end);
+    add_child_exists(key);
+    add("c%d>=max(OLD.c%d,NEW.c%d) AND c%d<OLD.c%d)", day, first, end, day, end);
+}
+
+static void create_parent_triggers(int k) {
+    record key = key_record(k);
+    start_trigger(k, key[1], "INSERT");
+    add("BEGIN ");
+    add_window_check(key);
+    end_trigger();
+    start_trigger(k, key[1], "UPDATE");
+    add("WHEN ");
+    for (int i = 0; i < key[5]; i++) {
+        add_changed(key[10 + i]);
+        add(" OR ");
+    }
+    add_changed(end_column(key));
+    add(" BEGIN ");
+    add_window_check(key);
+    add("; ");
+    add_left_out(key);
+    end_trigger();
+    start_trigger(k, key[1], "DELETE");
+    add("BEGIN SELECT RAISE(ABORT,'left out') WHERE ");
+    add_child_of_old(key);
+    end_trigger();
+}
+
+static void create_triggers(void) {
+    for (int k = 0; k < key_count; k++) {
+        if (!is_windowed(key_record(k))) continue;
+        require_plain_window(key_record(k));
+        create_child_triggers(k);
+        create_parent_triggers(k);
     }
 }
 
@@ -316,6 +465,7 @@ static void open_book(input book) {
             "PRAGMA temp_store=MEMORY; PRAGMA locking_mode=EXCLUSIVE; PRAGMA cache_size=-65536");
     for (int t = table_count - 1; t >= 0; t--) create_table(t);
     create_indexes();
+    create_triggers();
     for_each_where(book, index_sought);
     for (int t = 0; t < table_count; t++) prepare_row_statements(t);
     for_each_where(book, prepare_where);

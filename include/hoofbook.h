@@ -14,9 +14,9 @@
 extern "C" {
 #endif
 
-/* Codes. Nothing is written by 1, 3, 4, 10 to 13, 21 and 22. A call refused by 14 to 20 or 23 has all its rows
- * put back, and every journal word past the records in use is zero. A row change is judged by 14, 15, 23, 16 and
- * 17, in this order. */
+/* Codes. Nothing is written by 1, 3, 4, 10 to 13, 21 and 22. A call refused by 14 to 20, 23 or 24 has all its rows
+ * put back, and every journal word past the records in use is zero. A row change is judged by 14, 15, 23, 16, 17
+ * and 24, in this order; a deletion passes the last three. */
 enum hoofbook_code {
     HOOFBOOK_DONE = 0,                 /* carried out */
     HOOFBOOK_SCHEMA_MALFORMED = 1,     /* the schema bytes break a rule */
@@ -36,7 +36,8 @@ enum hoofbook_code {
                                         * outside a transaction of any key */
     HOOFBOOK_COMMIT_WITH_ORPHANS = 21, /* commit while a foreign key has orphans */
     HOOFBOOK_LIST_TOO_SHORT = 22,      /* the list has less records than there are orphans */
-    HOOFBOOK_BROKEN_KEY = 23           /* the row change uses a broken foreign key */
+    HOOFBOOK_BROKEN_KEY = 23,          /* the row change uses a broken foreign key */
+    HOOFBOOK_BAD_WINDOW = 24           /* the window of a written row has no day, or shares one with another */
 };
 
 /* Kinds of calls. A call is twelve words: 0 the kind, 1 a, 2 b, 3 the NULL mask, 4 to 11 the values.
@@ -71,9 +72,9 @@ typedef struct {
     int64_t count;
 } hoofbook_listed;
 
-/* An orphan: a row of the foreign key's child table that has no NULL in its key and no parent row. Under MATCH
- * FULL also a row with some but not all key columns NULL, which no parent row mends. A broken foreign key has
- * no orphans. */
+/* An orphan: a row of the foreign key's child table that has no NULL in its key and no parent row; where the key
+ * is windowed, none in whose window its day is. Under MATCH FULL also a row with some but not all key columns
+ * NULL, which no parent row mends. A broken foreign key has no orphans. */
 typedef struct {
     uint64_t foreign_key;
     uint64_t row;
@@ -87,7 +88,16 @@ typedef struct {
  * Byte 9 of a table record is the mask of its folded columns, for names that differ in capitals. The bytes of such a
  * value are the name's characters, the first the lowest: "Lf2" is 0x32664C. Two values of a folded column are equal
  * if their eight bytes are equal once 41 to 5A (hexadecimal) are raised by 20. Unique keys and kinds 10 and 11 go by
- * the column's own mark, a foreign key by those of its parent columns. Values are stored as they are given. */
+ * the column's own mark, a foreign key by those of its parent columns. Values are stored as they are given.
+ *
+ * Byte 14 of a foreign key record is the match: 0, or 1 for MATCH FULL. Byte 15 is 0, or 1 for a windowed key,
+ * which has two columns or more, and of the actions NO ACTION or RESTRICT. Its last child column is a day, its last
+ * parent column the first day of a window. The parent's next column is the window's end, the day after its last; where
+ * there is no such column, or it is in the key, the key is broken. A child row belongs to a parent row if the other
+ * columns are equal and first day <= day < end, as signed numbers, folded or not. A parent row with NULL in the key or
+ * in the end has no window. 24 refuses a row written with end <= first day, or with a window that shares a day with
+ * that of another row equal in the other columns. A new end counts as a new key. RESTRICT refuses to update a parent
+ * row where a child row of the old window is not in the new one. */
 int64_t hoofbook_check_schema(const uint8_t *schema, size_t schema_len);
 
 /* The length in words of an area for the schema; 0 where the schema is refused. */
@@ -97,7 +107,7 @@ int64_t hoofbook_area_words(const uint8_t *schema, size_t schema_len);
 int64_t hoofbook_make_fresh(const uint8_t *schema, size_t schema_len, int64_t *area, size_t area_len);
 
 /* Carries out a call of twelve words, of one of the eleven kinds, or refuses it. Kinds 10 and 11 go by rising
- * row number and judge each row at its turn, by 14 to 18 and 23; 20 is judged once, after the last row. One
+ * row number and judge each row at its turn, by 14 to 18, 23 and 24; 20 is judged once, after the last row. One
  * refused row refuses the whole call; finding no row is no cause to refuse. */
 hoofbook_answer hoofbook_call(const uint8_t *schema, size_t schema_len, int64_t *area, size_t area_len,
                               const int64_t *call, size_t call_len);

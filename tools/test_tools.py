@@ -27,6 +27,8 @@ from tooltests.matches import check_matches
 from tooltests.mistakes import TABLES, all_mistakes
 from tooltests.names import check_names
 from tooltests.orphans import check_orphans
+from tooltests.window_books import check_window_books
+from tooltests.windows import check_windows
 
 RANDOM_INPUTS = 400
 
@@ -55,6 +57,7 @@ table b rows 1024
 
 key a.(y, x) -> a.(x, y) match full on delete set null on update set default
 key b.x -> a.y match simple on delete no action on update restrict deferred
+key b.(x, y) -> a.(y, x) windowed match simple on delete restrict on update no action
 journal 4096
 update a 2 y=null x=-9
 delete b where x = "L#"
@@ -63,11 +66,12 @@ words 1 2 3 4 5 6 7 8 9 10 11 -12
 bytes 0a FF
 """
 EVERY_FIELD_BYTES = (
-    struct.pack("<4s6H", b"FKB1", 2, 2, 16, 176, 4096, 208)
+    struct.pack("<4s6H", b"FKB1", 2, 3, 16, 176, 4096, 224)
     + struct.pack("<HBB4BBB6x8q", 3, 2, 1, 1, 2, 3, 0, 2, 1, -2, 0, 0, 0, 0, 0, 0, 0)
     + struct.pack("<HBB4BBB6x8q", 1024, 2, 0, 0, 0, 0, 0, 0, 1, 0x3220664C, 0x23, 0, 0, 0, 0, 0, 0)
     + bytes([0, 0, 0, 2, 3, 2, 1, 0, 255, 255, 0, 1, 255, 255, 1, 0])
     + bytes([1, 0, 1, 0, 1, 1, 0, 255, 255, 255, 1, 255, 255, 255, 0, 0])
+    + bytes([1, 0, 0, 1, 0, 2, 0, 1, 255, 255, 1, 0, 255, 255, 0, 1])
     + struct.pack("<12q", 2, 0, 2, 2, -9, 0, 0, 0, 0, 0, 0, 0)
     + struct.pack("<12q", 10, 1, 0, 0, 0x234C, 0, 0, 0, 0, 0, 0, 0)
     + struct.pack("<12q", 7, 2, 0, 0, 0, 0, 0, 0, 0, 0, 0, 0)
@@ -84,6 +88,7 @@ table t1 rows 1024
   column c1 default 35
 key t0.(c1, c0) -> t0.(c0, c1) match full on delete set null on update set default
 key t1.c0 -> t0.c1 on update restrict deferred
+key t1.(c0, c1) -> t0.(c1, c0) windowed on delete restrict
 journal 4096
 update t0 2 c0=-9 c1=null
 delete t1 where c0 = "L#"
@@ -128,8 +133,9 @@ def check_round_trips(checks):
         checks.check(f"round trip of damaged input {number}", returns(damaged(source, data)))
         texts += text
     for start in (
-        r"key .* match full", r"key .* -> \?", r"key .* -> t\d+\.\S*\?", r"delete \S+ where ",
-        r"update \S+ set ", "words 10 ", "words 11 ", r"  column \S+ folded", '  column .* default "',
+        r"key .* match full", r"key .* windowed$", r"key .* windowed match full", r"key .* -> \?",
+        r"key .* -> t\d+\.\S*\?", r"delete \S+ where ", r"update \S+ set ", "words 10 ", "words 11 ",
+        r"  column \S+ folded", '  column .* default "',
         'insert .*="Lf2"', r'update \S+ set \S+="', 'delete .* = "Lf2"', 'update .*="Lf2 #~Az"',
     ):
         checks.check(f"random inputs with {start}", re.search(f"^{start}", texts, re.MULTILINE))
@@ -153,7 +159,7 @@ def check_runs(checks):
     answers, tally = run_hoofrun(PAPER_SCHEMA + calls)
     checks.check("answers of the paper's example", answers == PAPER_ANSWERS)
     checks.check("tally of the paper's example", tally == "accepted,6,refused,2,rows,6")
-    codes = [1, 3, 4, *range(10, 24)]
+    codes = [1, 3, 4, *range(10, 25)]
     checks.check("names of the refusals", sorted(REFUSALS) == codes and all(REFUSALS.values()))
     for text, code in (
         (TABLES.replace("journal 8", "journal 0"), 1),
@@ -238,8 +244,9 @@ def main():
     checks = Checks()
     for run in (
         check_build, check_encoding, check_round_trips, check_mistakes, check_many_rows, check_matches,
-        check_half_drawn, check_broken_keys, check_names, check_folded, check_runs, check_hoofask,
-        check_orphans, check_commands, check_command_faults, check_blocks,
+        check_half_drawn, check_broken_keys, check_names, check_folded, check_windows,
+        check_window_books, check_runs, check_hoofask, check_orphans, check_commands,
+        check_command_faults, check_blocks,
     ):
         try:
             run(checks)

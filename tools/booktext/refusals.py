@@ -18,6 +18,7 @@ REFUSALS = {
     21: "commit with orphans",
     22: "orphan list too short",
     23: "broken key",
+    24: "window empty or overlapping",
 }
 
 

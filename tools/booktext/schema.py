@@ -12,8 +12,11 @@ MOST_KEY_COLUMNS = 4
 
 HEADER = struct.Struct("<4s6H")  # magic, T, F, offset of tables, offset of foreign keys, J, length
 TABLE = struct.Struct("<HBB4sBB6x8q")  # R, C, NOT NULL, unique masks, default-is-NULL, folded, defaults
-FOREIGN_KEY = struct.Struct("<6B4s4sBx")  # child, parent, deferred, actions, n, columns of both, match
+# child, parent, deferred, actions, n, columns of both, match, windowed
+FOREIGN_KEY = struct.Struct("<6B4s4sBB")
 NO_COLUMN = 255
+LEAST_WINDOW_COLUMNS = 2  # the last column of a windowed key is the day
+WINDOW_ACTIONS = ACTIONS[:2]
 
 
 @dataclass
@@ -57,6 +60,15 @@ class ForeignKey:
     on_update: int = 0
     deferred: bool = False
     match: int = 0
+    windowed: bool = False
+
+    def has_window_columns(self):
+        """Whether there are columns enough for a windowed key."""
+        return len(self.child_columns) >= LEAST_WINDOW_COLUMNS
+
+    def has_window_actions(self):
+        """Whether a windowed key may have these actions."""
+        return max(self.on_delete, self.on_update) < len(WINDOW_ACTIONS)
 
 
 @dataclass
@@ -119,7 +131,7 @@ def key_bytes(key):
     rest = [NO_COLUMN] * (MOST_KEY_COLUMNS - count)
     numbers = (key.child, key.parent, key.deferred, key.on_delete, key.on_update, count)
     columns = (bytes(key.child_columns + rest), bytes(key.parent_columns + rest))
-    return FOREIGN_KEY.pack(*numbers, *columns, key.match)
+    return FOREIGN_KEY.pack(*numbers, *columns, key.match, key.windowed)
 
 
 def schema_bytes(schema):
@@ -146,11 +158,11 @@ def read_table(number, record):
 
 def read_key(record):
     """The foreign key that a record says."""
-    child, parent, deferred, on_delete, on_update, count, *columns, match = FOREIGN_KEY.unpack(record)
-    child_columns, parent_columns = (list(part[:count]) for part in columns)
-    return ForeignKey(
-        child, child_columns, parent, parent_columns, on_delete, on_update, bool(deferred), match
+    child, parent, deferred, *actions, count, child_part, parent_part, match, windowed = (
+        FOREIGN_KEY.unpack(record)
     )
+    columns = list(child_part[:count]), parent, list(parent_part[:count])
+    return ForeignKey(child, *columns, *actions, bool(deferred), match, bool(windowed))
 
 
 def has_names(schema, key):
@@ -160,6 +172,12 @@ def has_names(schema, key):
     if max(key.on_delete, key.on_update) >= len(ACTIONS) or key.match >= len(MATCHES):
         return False
     return max(key.child_columns) < len(schema.tables[key.child].columns)
+
+
+def has_line(schema, key):
+    """Whether a line says the key: it has names, and if it is windowed it is as such a key must be."""
+    may_be_windowed = key.has_window_columns() and key.has_window_actions()
+    return has_names(schema, key) and (may_be_windowed or not key.windowed)
 
 
 def read_schema(data):
@@ -175,5 +193,5 @@ def read_schema(data):
         schema.tables.append(read_table(number, data[at : at + TABLE.size]))
     for at in range(keys_at, len(data), FOREIGN_KEY.size):
         schema.keys.append(read_key(data[at : at + FOREIGN_KEY.size]))
-    named = schema.fits() and all(has_names(schema, key) for key in schema.keys)
-    return schema if named and schema_bytes(schema) == data else None
+    said = schema.fits() and all(has_line(schema, key) for key in schema.keys)
+    return schema if said and schema_bytes(schema) == data else None

@@ -2,8 +2,8 @@
 
 from .calls import LEAST_WORD, MOST_WORD
 from .names import name_fault, name_value
-from .schema import ACTIONS, MATCHES, MOST_COLUMNS, MOST_KEY_COLUMNS, MOST_UNIQUE
-from .schema import Column, ForeignKey, Table, undrawn_name
+from .schema import ACTIONS, LEAST_WINDOW_COLUMNS, MATCHES, MOST_COLUMNS, MOST_KEY_COLUMNS
+from .schema import MOST_UNIQUE, WINDOW_ACTIONS, Column, ForeignKey, Table, undrawn_name
 
 FIELD_MOST = (1 << 16) - 1  # rows and journal room are 16-bit fields
 NUMBER_MOST = 255  # a foreign key's tables and columns are bytes
@@ -188,7 +188,8 @@ def read_columns(line, table, most, undrawn=None):
 
 
 def read_clauses(line, key):
-    """[match MATCH] [on delete ACTION] [on update ACTION] [deferred]"""
+    """[windowed] [match MATCH] [on delete ACTION] [on update ACTION] [deferred]"""
+    key.windowed = line.accept("windowed")
     if line.accept("match"):
         key.match = read_choice(line, MATCHES)
     if line.accept("on delete"):
@@ -197,8 +198,21 @@ def read_clauses(line, key):
         key.on_update = read_choice(line, ACTIONS)
     key.deferred = line.accept("deferred")
     if line.peek() is not None:
-        clauses = "'match', 'on delete', 'on update', 'deferred'"
+        clauses = "'windowed', 'match', 'on delete', 'on update', 'deferred'"
         line.expected(f"{clauses} in this order, each at most once")
+    if key.windowed:
+        check_windowed(line, key)
+
+
+def check_windowed(line, key):
+    """A windowed key has a day beside its other columns, and no action changes a child row."""
+    if not key.has_window_columns():
+        least, found = LEAST_WINDOW_COLUMNS, len(key.child_columns)
+        line.fail(f"expected at least {least} columns in a windowed key, the last a day, found {found}")
+    for clause, action in (("on delete", key.on_delete), ("on update", key.on_update)):
+        if action >= len(WINDOW_ACTIONS):
+            allowed, found = " or ".join(WINDOW_ACTIONS), ACTIONS[action]
+            line.fail(f"expected {allowed} after {clause!r} in a windowed key, found {found!r}")
 
 
 def read_choice(line, phrases):

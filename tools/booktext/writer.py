@@ -56,7 +56,7 @@ def key_ends(schema, key):
 
 def key_line(schema, key):
     """The line of a foreign key."""
-    line = f"key {key_ends(schema, key)}"
+    line = f"key {key_ends(schema, key)}" + " windowed" * key.windowed
     if key.match:
         line += f" match {MATCHES[key.match]}"
     if key.on_delete:

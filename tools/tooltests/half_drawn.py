@@ -6,6 +6,8 @@ from booktext.reader import read_text
 from booktext.runner import run_hoofrun
 from booktext.writer import text_of
 
+from .inputs import may_be_windowed
+
 RANDOM_RECORDS = 300
 RECORD, PARENT_AT, COLUMN_AT = 16, 1, 10  # of a foreign key record
 BYTES = (*range(10), 16, 17, 127, 128, 254, 255)
@@ -77,7 +79,8 @@ def random_record(source):
     numbers = [source.choice((0, 1, 2, 3, 255, source.randrange(256))) for _ in range(count + 1)]
     head = [1, numbers[0], source.randrange(2), source.randrange(5), source.randrange(5), count]
     child_columns, rest = source.sample((0, 1), count), [255] * (4 - count)
-    return bytes(head + child_columns + rest + numbers[1:] + rest + [source.randrange(2), 0])
+    marks = [source.randrange(2), may_be_windowed(head) and source.randrange(2)]
+    return bytes(head + child_columns + rest + numbers[1:] + rest + marks)
 
 
 def check_random_records(checks):

@@ -29,6 +29,12 @@ def table_record(random, columns):
     return struct.pack("<HB7B6x8q", rows, columns, *masks, *defaults)
 
 
+def may_be_windowed(head):
+    """Whether a key may be windowed, by the first six bytes of its record: its actions and its columns."""
+    *_, on_delete, on_update, count = head
+    return max(on_delete, on_update) < 2 <= count
+
+
 def key_record(random, widths):
     """A foreign key record of a table to a table, or to any numbers, as one that is not drawn has."""
     child, parent = random.randrange(len(widths)), random.randrange(len(widths))
@@ -39,9 +45,10 @@ def key_record(random, widths):
         parent = random.choice((parent, random.randrange(256)))
     count = min(len(child_columns), len(parent_columns))
     head = [child, parent, random.randint(0, 1), random.randint(0, 4), random.randint(0, 4), count]
+    marks = [random.randint(0, 1), may_be_windowed(head) and random.randint(0, 1)]
     for columns in (child_columns, parent_columns):
         head += columns[:count] + [255] * (4 - count)
-    return bytes(head + [random.randint(0, 1), 0])
+    return bytes(head + marks)
 
 
 def schema(random):

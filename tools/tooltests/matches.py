@@ -10,7 +10,7 @@ from booktext.writer import text_of
 
 RANDOM_BOOKS = 40
 CALLS = 40  # of a random book
-RECORD, COUNT_AT, MATCH_AT, ZERO_AT = 16, -11, -2, -1  # bytes 5, 14 and 15 of the last record
+RECORD, COUNT_AT, MATCH_AT = 16, -11, -2  # bytes 5 and 14 of the last record
 
 # Names as decode gives them, so that a text comes back as it is.
 TABLES = """\
@@ -53,7 +53,7 @@ def check_clauses(checks):
     """Clauses against byte 14, both ways."""
     for read, written, match in CLAUSES:
         data = read_text(TABLES + KEY + read + JOURNAL).to_bytes()
-        checks.check(f"byte 14 of{read}", (data[MATCH_AT], data[ZERO_AT]) == (match, 0), data[-16:])
+        checks.check(f"byte 14 of{read}", data[MATCH_AT] == match, data[-16:])
         found = text_of(data)
         checks.check(f"line of{read}", found == TABLES + KEY + written + JOURNAL, found)
     data = read_text(NAMES).to_bytes()
@@ -62,16 +62,16 @@ def check_clauses(checks):
 
 
 def check_bytes(checks):
-    """The engine refuses a byte 14 or 15 by 1 exactly where no line says it."""
+    """The engine refuses a byte 14 by 1 exactly where no line says it."""
     keys = [read_text(TABLES + key + JOURNAL).to_bytes() for key in (KEY, KEY_OF_ONE)]
-    values = [(MATCH_AT, value) for value in (0, 1, 2, 3, 4, 16, 127, 128, 254, 255)]
-    for data, (at, value) in [(data, damage) for data in keys for damage in values + [(ZERO_AT, 1)]]:
+    values = (0, 1, 2, 3, 4, 16, 127, 128, 254, 255)
+    for data, value in [(data, value) for data in keys for value in values]:
         changed = bytearray(data)
-        changed[at] = value
+        changed[MATCH_AT] = value
         said = not text_of(changed).startswith("bytes ")
         answers = run_hoofrun(changed)[0]
-        name = f"a key of {data[COUNT_AT]} columns with byte {RECORD + at} = {value}"
-        checks.check(f"{name} as text", said == (at == MATCH_AT and value < 2), said)
+        name = f"a key of {data[COUNT_AT]} columns with byte 14 = {value}"
+        checks.check(f"{name} as text", said == (value < 2), said)
         checks.check(name, answers == ([] if said else [(1, 0, 0)]), answers)
 
 

@@ -68,10 +68,28 @@ KEY_MISTAKES = [
     ("key trims.horse -> horses.number match full match full", "each at most once, found 'match'"),
     ("key trims.horse -> horses.number match simple match full", "each at most once, found 'match'"),
     ("key trims.horse -> horses.number on delete cascade match full", "in this order"),
-    ("key trims.horse -> horses.number full", "expected 'match', 'on delete', 'on update'"),
+    ("key trims.horse -> horses.number full", "expected 'windowed', 'match', 'on delete', 'on update'"),
     ("key trims.horse match full -> horses.number", "expected '->', found 'match'"),
     ("key trims.horse -> horses.number postponed", "found 'postponed'"),
     ("key trims.horse -> horses.number deferred on delete cascade", "in this order"),
+]
+
+WINDOWED = "key trims.(number, horse) -> horses.(number, weight)"
+WINDOW_MISTAKES = [
+    ("key trims.horse -> horses.number windowed", "columns in a windowed key, the last a day, found 1"),
+    ("key trims.horse -> ?yards.?name windowed deferred", "at least 2 columns in a windowed key"),
+    (f"{WINDOWED} windowed on delete set null", "after 'on delete' in a windowed key, found 'set null'"),
+    (f"{WINDOWED} windowed on delete set default", "expected no action or restrict after 'on delete'"),
+    (f"{WINDOWED} windowed on delete cascade deferred", "in a windowed key, found 'cascade'"),
+    (f"{WINDOWED} windowed on update set null", "after 'on update' in a windowed key, found 'set null'"),
+    (f"{WINDOWED} windowed on delete restrict on update set default", "restrict after 'on update' in a"),
+    (f"{WINDOWED} windowed match full on update cascade", "in a windowed key, found 'cascade'"),
+    (f"{WINDOWED} windowed windowed", "in this order, each at most once, found 'windowed'"),
+    (f"{WINDOWED} match full windowed", "in this order, each at most once, found 'windowed'"),
+    (f"{WINDOWED} on delete restrict windowed", "in this order, each at most once, found 'windowed'"),
+    (f"{WINDOWED} deferred windowed", "in this order, each at most once, found 'windowed'"),
+    (f"{WINDOWED} window", "in this order, each at most once, found 'window'"),
+    ("key trims.(number, horse) windowed -> horses.(number, weight)", "expected '->', found 'windowed'"),
 ]
 
 UNDRAWN_KEY_MISTAKES = [
@@ -228,7 +246,7 @@ def all_mistakes():
     before_journal, at_key = TABLES.rsplit("journal", 1)[0], 8
     yield from SCHEMA_MISTAKES
     yield from SCHEMA_NAME_MISTAKES
-    for line, message in KEY_MISTAKES + UNDRAWN_KEY_MISTAKES:
+    for line, message in KEY_MISTAKES + WINDOW_MISTAKES + UNDRAWN_KEY_MISTAKES:
         yield before_journal + line + "\njournal 8\n", at_key, message
     for line, message in CALL_MISTAKES + WHERE_MISTAKES + VALUE_NAME_MISTAKES:
         yield TABLES + "\n# calls\n" + line + "\ncommit\n", 11, message
