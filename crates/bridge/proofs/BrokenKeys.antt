@@ -1,7 +1,7 @@
 -- A broken key has no orphans, and an admitted row change uses none.
 -- Assumes nothing.
 use mathlib.Core.Path.{_≡_, _∙_, ap}
-use mathlib.Core.Bool.{true, false, not, _&&_, _||_}
+use mathlib.Core.Bool.{true, false, not, _&&_, _||_, and-false}
 use mathlib.Core.List.{List, []}
 use Prim.Native.Nat.{ℕ}
 use lib.Dec.{eqb}
@@ -10,7 +10,6 @@ use Rattle.schema.specs.Records.{ForeignKey, childKey, parentKey}
 use Rattle.rules.specs.Lists.{any}
 use Rattle.rules.specs.Rows.{Row, Tables}
 use Rattle.rules.specs.Keys.{fullKey, halfDue, due, serves, orphan, orphans, sameParentKey, fires}
-use Rattle.bridge.proofs.Tests.{and-none}
 use Rattle.bridge.proofs.CountLaws.{count-none}
 
 module _ (k : ForeignKey) (u : k .broken ≡ true) where
@@ -31,4 +30,4 @@ module _ (k : ForeignKey) (u : k .broken ≡ true) where
   unfolding fires
   broken-still new t old =
       ap (λ b. eqb (k .parent) t && (not b && (fullKey (parentKey k) old && not (sameParentKey k old new)))) u
-      ∙ and-none (eqb (k .parent) t)
+      ∙ and-false (eqb (k .parent) t)

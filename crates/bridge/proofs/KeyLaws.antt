@@ -1,7 +1,7 @@
 -- Keys are equal either way round, those that equal one key equal each other, and a row's padding does not matter to them.
 -- Assumes nothing.
 use mathlib.Core.Path.{_≡_, refl, sym, _∙_, ap, ap₂}
-use mathlib.Core.Bool.{Bool, true, false, not, _&&_, _||_, false≢true}
+use mathlib.Core.Bool.{Bool, true, false, not, _&&_, _||_, false≢true, and-comm}
 use mathlib.Core.List.{List, [], _∷_, _++_}
 use Prim.Native.Nat.{ℕ, zero, suc, _-_}
 use native.Mathlib.Omega.{arith}
@@ -65,12 +65,6 @@ module _ (x y : Row) (fs : List Bool) (c d : ℕ) (cs ds : List ℕ) where
       by false e = absurd (false≢true e)
 
 -- ---- either way round
-
-pub and-comm : (a b : Bool) → a && b ≡ b && a
-and-comm true true = refl
-and-comm true false = refl
-and-comm false true = refl
-and-comm false false = refl
 
 module _ (x y : Row) where
   pub cell-sym : (f : Bool) (c d : ℕ) → sameCell f x y c d ≡ sameCell f y x d c

@@ -1,7 +1,7 @@
 -- What it is that a child row maps to a parent row: the pairs are equal, the day is in the window, and neither key has NULL.
 -- Assumes nothing.
 use mathlib.Core.Path.{_≡_, refl, sym, _∙_, ap, ap₂}
-use mathlib.Core.Bool.{Bool, true, false, not, _&&_, _||_}
+use mathlib.Core.Bool.{Bool, true, false, not, _&&_, _||_, and-true}
 use mathlib.Core.List.{List, [], _∷_, _++_, map, append-nil}
 use Prim.Native.Nat.{ℕ, suc}
 use lib.ListN.{length}
@@ -83,10 +83,6 @@ windows-full c x y column f (w ∷ ws) h =
 
 -- ---- a foreign key, its columns as many on both sides, and a parent row x
 
-and-all : (b : Bool) → b && true ≡ b
-and-all true = refl
-and-all false = refl
-
 module _ (k : ForeignKey) (x c : Row) (h : mapsTo k c x ≡ true) where
   pub pairs-equal : sameKey (k .folds) (k .childColumns) (k .parentColumns) c x ≡ true
   unfolding mapsTo
@@ -126,7 +122,7 @@ module _ (k : ForeignKey) (same-count : length (k .childColumns) ≡ length (k .
       let group = and-left (live p && sameKey (k .folds) (k .parentColumns) (k .parentColumns) p x) (all (sameWindow p x) (k .windows)) s in
       let window = and-right (live p && sameKey (k .folds) (k .parentColumns) (k .parentColumns) p x) (all (sameWindow p x) (k .windows)) s in
       rw (pairs-twin p, windows-twin c x p (k .windows) (days-in k x c h) window)
-      (ap (λ b. live p && b) (and-all (sameKey (k .folds) (k .parentColumns) (k .parentColumns) p x)) ∙ group)
+      (ap (λ b. live p && b) (and-true (sameKey (k .folds) (k .parentColumns) (k .parentColumns) p x)) ∙ group)
 
   -- only by rows that are equal to x in the pairs
   pub served-group : (p : Row) → serves k c p ≡ true → sameParent k x p ≡ true
@@ -160,11 +156,11 @@ module _ (k : ForeignKey) (none : k .windows ≡ []) where
 
   pub maps-plain : (c x : Row) → mapsTo k c x ≡ sameKey (k .folds) (k .childColumns) (k .parentColumns) c x
   unfolding mapsTo all
-  maps-plain c x = ap (λ (ws : List Window). sameKey (k .folds) (k .childColumns) (k .parentColumns) c x && all (inWindow c x) ws) none ∙ and-all (sameKey (k .folds) (k .childColumns) (k .parentColumns) c x)
+  maps-plain c x = ap (λ (ws : List Window). sameKey (k .folds) (k .childColumns) (k .parentColumns) c x && all (inWindow c x) ws) none ∙ and-true (sameKey (k .folds) (k .childColumns) (k .parentColumns) c x)
 
   pub same-plain : (y x : Row) → sameParentKey k y x ≡ live x && sameKey (k .folds) (k .parentColumns) (k .parentColumns) x y
   unfolding sameParentKey sameParent all
-  same-plain y x = ap (λ (ws : List Window). (live x && sameKey (k .folds) (k .parentColumns) (k .parentColumns) x y) && all (sameWindow x y) ws) none ∙ and-all (live x && sameKey (k .folds) (k .parentColumns) (k .parentColumns) x y)
+  same-plain y x = ap (λ (ws : List Window). (live x && sameKey (k .folds) (k .parentColumns) (k .parentColumns) x y) && all (sameWindow x y) ws) none ∙ and-true (live x && sameKey (k .folds) (k .parentColumns) (k .parentColumns) x y)
 
 -- ---- two parent rows of one child row
 

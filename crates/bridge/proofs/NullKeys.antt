@@ -1,7 +1,7 @@
 -- Keys with NULL in them: which rows need a parent all the same, and that no row serves them.
 -- Assumes nothing.
 use mathlib.Core.Path.{_≡_, refl, sym, _∙_, ap}
-use mathlib.Core.Bool.{Bool, true, false, not, _&&_, _||_, false≢true}
+use mathlib.Core.Bool.{Bool, true, false, not, _&&_, _||_, false≢true, and-false}
 use mathlib.Core.List.{List}
 use Prim.Native.Nat.{ℕ}
 use lib.ListN.{length}
@@ -13,7 +13,6 @@ use Rattle.schema.proofs.RangeLaws.{and-left, and-right}
 use Rattle.rules.specs.Lists.{any}
 use Rattle.rules.specs.Rows.{Row, live, nullAt}
 use Rattle.rules.specs.Keys.{fullKey, halfKey, mapsTo, halfDue, due, serves, orphan}
-use Rattle.bridge.proofs.Tests.{and-none}
 use Rattle.bridge.proofs.CountLaws.{any-never}
 use Rattle.bridge.proofs.MapLaws.{child-full}
 
@@ -42,7 +41,7 @@ vacant-orphan k ps x h =
   where
     by : (d : Bool) → (d ≡ true → live x ≡ true) → (not (k .broken) && d) && not (any (serves k x) ps) ≡ false
     by true e = absurd (false≢true (sym h ∙ e refl))
-    by false e = ap (λ b. b && not (any (serves k x) ps)) (and-none (not (k .broken)))
+    by false e = ap (λ b. b && not (any (serves k x) ps)) (and-false (not (k .broken)))
 
 -- ---- a child row x of a foreign key that is not broken
 module _ (k : ForeignKey) (whole : k .broken ≡ false) (x : Row) where
@@ -71,7 +70,7 @@ module _ (k : ForeignKey) (same-count : length (k .childColumns) ≡ length (k .
     where
       by : (m : Bool) → mapsTo k x p ≡ m → live p && m ≡ false
       by true e = absurd (false≢true (sym (child-full k same-count p x e) ∙ half-null x (childKey k) h))
-      by false e = and-none (live p)
+      by false e = and-false (live p)
 
   -- so one that needs a parent with NULL in its key is an orphan, whatever the parent rows
   pub half-orphan : k .broken ≡ false → (ps : List Row) → fullKey (childKey k) x ≡ false → orphan k ps x ≡ halfDue (k .match) (childKey k) x

@@ -13,10 +13,6 @@ use Rattle.schema.specs.Ranges.{all}
 pub and-both : {a b : Bool} → a ≡ true → b ≡ true → a && b ≡ true
 and-both p q = rw (p, q)
 
-pub and-none : (b : Bool) → b && false ≡ false
-and-none true = refl
-and-none false = refl
-
 pub and-assoc : (a b c : Bool) → a && (b && c) ≡ (a && b) && c
 and-assoc true b c = refl
 and-assoc false b c = refl

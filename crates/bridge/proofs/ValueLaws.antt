@@ -1,7 +1,7 @@
 -- For an old row with no NULL in its key: the rows with its key are those that hold its values, so the child rows gone through by the old row are those gone through by the values.
 -- Assumes nothing.
 use mathlib.Core.Path.{_≡_, refl, sym, _∙_, ap}
-use mathlib.Core.Bool.{Bool, true, false, not, _&&_}
+use mathlib.Core.Bool.{Bool, true, false, not, _&&_, and-comm, and-true}
 use mathlib.Core.List.{List, [], _∷_, _++_, map}
 use Prim.Native.Nat.{ℕ, suc, _≤_}
 use native.Mathlib.Omega.{arith}
@@ -19,11 +19,7 @@ use Rattle.rules.specs.Found.{cellIs}
 use Rattle.rules.specs.KeyValues.{keyValues, holdsKey, hasKey, holdsDay, hasOldKey, childHasKey, turnByValues, childrenByValues}
 use Rattle.bridge.proofs.Tests.{and-same, and-assoc, or-same}
 use Rattle.bridge.proofs.CountLaws.{any-cons, any-neither}
-use Rattle.bridge.proofs.KeyLaws.{value-sym, and-comm}
-
-with-true : (b : Bool) → b ≡ b && true
-with-true true = refl
-with-true false = refl
+use Rattle.bridge.proofs.KeyLaws.{value-sym}
 
 both : {a b p q : Bool} → a ≡ p → b ≡ q → a && b ≡ elim p [ true ↦ q | false ↦ false ]
 both {p = true} e f = rw (e, f) refl
@@ -34,7 +30,7 @@ module _ (old : Row) where
   unfolding cellIs sameCell
   cell-value row f c d h =
       and-comm (not (nullAt row c)) (sameValue f (valueAt old d) (valueAt row c))
-      ∙ and-same (value-sym f (valueAt old d) (valueAt row c)) (with-true (not (nullAt row c)) ∙ ap (λ m. not (nullAt row c) && not m) (sym h))
+      ∙ and-same (value-sym f (valueAt old d) (valueAt row c)) (sym (and-true (not (nullAt row c))) ∙ ap (λ m. not (nullAt row c) && not m) (sym h))
 
   pub key-values : (row : Row) (fs : List Bool) (cs ds : List ℕ) → any (nullAt old) ds ≡ false → holdsKey fs cs (keyValues ds old) row ≡ sameKey fs cs ds row old
   unfolding holdsKey keyValues sameKey
@@ -54,7 +50,7 @@ module _ (old : Row) where
   -- a day in the old row's window
   day-value : (row : Row) (n : ℕ) (vs : List ℤ) (w : Window) → getD vs n 𝟘 ≡ firstDay w old → getD vs (suc n) 𝟘 ≡ endDay w old → nullAt old (w .first) ≡ false → nullAt old (suc (w .first)) ≡ false → inWindow row old w ≡ holdsDay n vs row w
   unfolding inWindow holdsDay
-  day-value row n vs w e f p q = rw (p, q, e, f) (ap (λ b. b && isWithin (firstDay w old) (endDay w old) (valueAt row (w .day))) (sym (with-true (not (nullAt row (w .day))))))
+  day-value row n vs w e f p q = rw (p, q, e, f) (ap (λ b. b && isWithin (firstDay w old) (endDay w old) (valueAt row (w .day))) (and-true (not (nullAt row (w .day)))))
 
   -- the values of the window stand behind those of the pairs
   module _ (a b : ℕ) where

@@ -1,7 +1,7 @@
 -- The call that twelve words are, kind by kind, where refusal 4 does not refuse it.
 -- Assumes nothing.
 use mathlib.Core.Path.{_≡_, refl, sym, _∙_, ap}
-use mathlib.Core.Bool.{Bool, true, false, _&&_}
+use mathlib.Core.Bool.{Bool, true, false, _&&_, and-true, and-false}
 use mathlib.Core.List.{List}
 use Prim.Native.Nat.{ℕ, zero, suc, _+_, _-_, _≤_, _<_}
 use native.Mathlib.Omega.{arith}
@@ -34,10 +34,6 @@ formed-no c e = rw e refl
 and-swap : (p n t f : Bool) → p && n && (t && f) ≡ p && t && n && f
 and-swap false n t f = refl
 and-swap true true t f = ap (λ x. x && f) (sym (and-true t))
-  where
-    and-true : (t : Bool) → t && true ≡ t
-    and-true true = refl
-    and-true false = refl
 and-swap true false true f = refl
 and-swap true false false f = refl
 
@@ -173,10 +169,6 @@ module _ (s : Schema) where
     pub parse-negative : natural (getD ws 0 𝟘) ≡ false → malformed ≡ judged s (parse ws)
     unfolding parse formedIf
     parse-negative e = sym (ap (λ t. judged s (formedIf t (parsed (natOf (getD ws 0 𝟘)) ws))) (ap (λ t. eqb (length ws) 12 && t) e ∙ and-false (eqb (length ws) 12)) ∙ judged-malformed)
-      where
-        and-false : (t : Bool) → t && false ≡ false
-        and-false true = refl
-        and-false false = refl
 
     pub parse-kind : length ws ≡ 12 → natural (getD ws 0 𝟘) ≡ true → parsed (natOf (getD ws 0 𝟘)) ws ≡ parse ws
     unfolding parse formedIf

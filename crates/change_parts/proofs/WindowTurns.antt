@@ -3,26 +3,22 @@
 use mathlib.Core.Path.{_≡_, refl, sym, ap, _∙_}
 use mathlib.Core.Bool.{Bool, true, false, not, _&&_}
 use mathlib.Core.List.{List, [], _∷_}
-use mathlib.Core.Logic.{_⊎_, inl, inr, ⊎-elim}
-use Prim.Native.Nat.{ℕ, zero, suc, _+_, _<_}
+use mathlib.Core.Logic.{_⊎_}
+use Prim.Native.Nat.{ℕ, suc, _+_, _<_}
 use native.Mathlib.Nat.{zero-add}
 use native.Mathlib.Omega.{arith}
-use borrow.Author.Tests.{ne-eqb, ltb-true}
-use lib.Dec.{eqb, ltb, leb}
+use borrow.Author.Tests.{ne-eqb}
+use lib.Dec.{eqb}
 use lib.IntN.{ℤ}
 use lib.ListN.{length, getD}
 use Rattle.schema.specs.declared.Action.{Action}
 use Rattle.schema.specs.declared.Action.the-variants.{NoAction, Restrict}
 use Rattle.schema.specs.declared.SchemaAnswer.the-variants.{Accepted}
-use Rattle.schema.specs.Ranges.{allFrom}
 use Rattle.schema.specs.Records.{ForeignKey, Schema, parentKey, tableOf, keyOf}
-use Rattle.schema.specs.Fields
 use Rattle.schema.specs.Fields.{schemaOf}
-use Rattle.schema.specs.Check
-use Rattle.schema.proofs.RangeLaws.{and-left, and-right, every-at, all-at}
-use Rattle.schema.proofs.Formed.{and3}
-use Rattle.schema.proofs.SchemaLaws.{keys-are, accepted-formed}
-use Rattle.schema.proofs.FieldLaws.{read-windows, read-on-delete, read-on-update}
+use Rattle.schema.specs.Check.{checkSchema}
+use Rattle.schema.proofs.RangeLaws.{and-left, and-right}
+use Rattle.schema.proofs.FieldLaws.{window-actions}
 use Rattle.rules.specs.declared.Refusal.the-variants.{Restricted}
 use Rattle.rules.specs.declared.Verdict.{Verdict}
 use Rattle.rules.specs.declared.Verdict.the-variants.{Pass, Fail}
@@ -37,41 +33,15 @@ use Rattle.bridge.proofs.KeyLaws.{serves-same, get-padded}
 use Rattle.bridge.proofs.RowWords.{rows-length, formed-fit}
 use Rattle.change_parts.specs.Turns.{restricted, WindowTurn}
 
--- ---- the actions of a key with a window
-
--- an action code below 2
-low-action : (c : ℕ) → c < 2 → (Fields.actionFrom c ≡ NoAction) ⊎ (Fields.actionFrom c ≡ Restrict)
-unfolding Fields.actionFrom
-low-action zero h = inl refl
-low-action (suc zero) h = inr refl
-low-action (suc (suc c)) h = absurd (omega arith)
-
-module _ (b : List ℕ) (acc : Check.checkSchema b ≡ Accepted) (k : ℕ) (h : k < length (schemaOf b .keys)) (one : length (keyOf (schemaOf b) k .windows) ≡ 1) where
-  rule : Check.windowedRule b k ≡ true
-  unfolding Check.wellFormed Check.keyRules Check.codeRules
-  rule =
-      let keys = and3 (Check.headerRules b) (allFrom (Check.tableRules b) (Fields.tableCount b) 0) (allFrom (Check.keyRules b) (Fields.keyCount b) 0) (accepted-formed b acc) .2 in
-      let key : Check.keyRules b k ≡ true = rw (zero-add k) at (all-at (Check.keyRules b) (Fields.keyCount b) 0 keys k (omega (arith, keys-are b))) in
-      every-at _ (and-left (Check.codeRules b k) (Check.keyRest b k) key) 7 (omega arith)
-
-  low-codes : (Fields.onDeleteOf b k < 2) × (Fields.onUpdateOf b k < 2)
-  unfolding Check.windowedRule
-  low-codes =
-      let w : Fields.windowedOf b k ≡ 1 = read-windows b acc k h refl .0 ∙ one in
-      let both = and-right (leb 2 (Fields.widthOf b k)) (ltb (Fields.onDeleteOf b k) 2 && ltb (Fields.onUpdateOf b k) 2) (rw w at rule) in
-      (ltb-true _ _ (and-left (ltb (Fields.onDeleteOf b k) 2) _ both), ltb-true _ _ (and-right (ltb (Fields.onDeleteOf b k) 2) _ both))
-
-  -- "both actions below 2"
-  pub window-actions : (new : Row) → (actionOf new (keyOf (schemaOf b) k) ≡ NoAction) ⊎ (actionOf new (keyOf (schemaOf b) k) ≡ Restrict)
-  unfolding actionOf
-  window-actions new = by (live new)
-    where
-      low : (c : ℕ) → c < 2 → {a : Action} → Fields.actionFrom c ≡ a → (a ≡ NoAction) ⊎ (a ≡ Restrict)
-      low c l e = ⊎-elim (λ p. inl (sym e ∙ p)) (λ p. inr (sym e ∙ p)) (low-action c l)
-
-      by : (t : Bool) → (_≡_ {A = Action} (elim t [ true ↦ keyOf (schemaOf b) k .onUpdate | false ↦ keyOf (schemaOf b) k .onDelete ]) NoAction) ⊎ (_≡_ {A = Action} (elim t [ true ↦ keyOf (schemaOf b) k .onUpdate | false ↦ keyOf (schemaOf b) k .onDelete ]) Restrict)
-      by true = low (Fields.onUpdateOf b k) (low-codes .1) (read-on-update b acc k h refl)
-      by false = low (Fields.onDeleteOf b k) (low-codes .0) (read-on-delete b acc k h refl)
+-- ---- the action of a key with a window
+pub window-action : (b : List ℕ) → checkSchema b ≡ Accepted → (k : ℕ) → k < length (schemaOf b .keys) → length (keyOf (schemaOf b) k .windows) ≡ 1 → (new : Row)
+    → (actionOf new (keyOf (schemaOf b) k) ≡ NoAction) ⊎ (actionOf new (keyOf (schemaOf b) k) ≡ Restrict)
+unfolding actionOf
+window-action b acc k h one new = by (live new)
+  where
+    by : (t : Bool) → (_≡_ {A = Action} (elim t [ true ↦ keyOf (schemaOf b) k .onUpdate | false ↦ keyOf (schemaOf b) k .onDelete ]) NoAction) ⊎ (_≡_ {A = Action} (elim t [ true ↦ keyOf (schemaOf b) k .onUpdate | false ↦ keyOf (schemaOf b) k .onDelete ]) Restrict)
+    by true = window-actions b acc k h one .1
+    by false = window-actions b acc k h one .0
 
 -- ---- child rows in turn
 

@@ -1,7 +1,7 @@
 -- Rows that are found, by what the scans look for.
 -- Assumes nothing.
 use mathlib.Core.Path.{_≡_, refl, sym, _∙_, ap}
-use mathlib.Core.Bool.{Bool, true, false, cond, not, _&&_}
+use mathlib.Core.Bool.{Bool, true, false, cond, not, _&&_, and-true, and-false}
 use mathlib.Core.List.{List, [], _∷_}
 use Prim.Native.Nat.{ℕ, zero, suc, _<_}
 use native.Mathlib.Omega.{arith}
@@ -20,7 +20,6 @@ use Rattle.rules.specs.Found.{cellIs, isFound, rowSet, rowsFound}
 use Rattle.rules.specs.KeyValues.{holdsKey, hasKey}
 use Rattle.bridge.specs.Fit.{workOf}
 use Rattle.bridge.specs.Ready.{Ready, rowIn}
-use Rattle.bridge.proofs.KeyLaws.{and-comm}
 use Rattle.folding.proofs.FoldLaws.{fold-again, folded-value}
 use Rattle.rows.specs.declared.TableRows.{TableRows}
 use Rattle.rows.specs.declared.SoughtKey.{SoughtKey}
@@ -48,11 +47,11 @@ null-is a p w c h e f = f ∙ ap (bit c) e ∙ sym (null-in a p w c h)
 module _ (c : ℕ) (row : Row) where
   pub filled-not-found : nullIn c row ≡ false → hasNull c row ≡ false
   unfolding hasNull
-  filled-not-found e = ap (λ (b : Bool). live row && b) e ∙ and-comm (live row) false
+  filled-not-found e = ap (λ (b : Bool). live row && b) e ∙ and-false (live row)
 
   pub null-decides : {b : Bool} → nullIn c row ≡ true → b ≡ live row → b ≡ hasNull c row
   unfolding hasNull
-  null-decides e f = f ∙ and-comm true (live row) ∙ ap (λ (b : Bool). live row && b) (sym e)
+  null-decides e f = f ∙ sym (and-true (live row)) ∙ ap (λ (b : Bool). live row && b) (sym e)
 
 -- rows that are passed over are not found
 pub filled-passed : (c : ℕ) {a : List ℤ} {t : TableRows} {from x : ℕ} → Skipped (nullIn c) a t from x → Skipped (hasNull c) a t from x
@@ -85,7 +84,7 @@ module _ (mask c : ℕ) (v : ℤ) where
   unfolding hasSought hasKey holdsKey foldsIn listFrom valueKey isFound cellIs
   value-found row =
       ap (λ (b : Bool). live row && b)
-      (and-comm (not (nullAt row c) && sameValue (bit 0 (one (bit c mask))) (folded (bit c mask) v) (valueAt row c)) true
+      (and-true (not (nullAt row c) && sameValue (bit 0 (one (bit c mask))) (folded (bit c mask) v) (valueAt row c))
       ∙ ap (λ (b : Bool). not (nullAt row c) && b) (ap (λ (f : Bool). sameValue f (folded (bit c mask) v) (valueAt row c)) (bit-one (bit c mask)) ∙ folded-value (bit c mask) v (valueAt row c)))
 
 -- ---- what a table is searched by

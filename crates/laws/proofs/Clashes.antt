@@ -1,7 +1,7 @@
 -- Windowed keys: their columns are in the parent table, and rows clash either way round.
 -- Assumes nothing.
 use mathlib.Core.Path.{_≡_, refl, sym, _∙_, ap, ap₂, subst}
-use mathlib.Core.Bool.{Bool, true, false, not, _&&_}
+use mathlib.Core.Bool.{Bool, true, false, not, _&&_, and-comm}
 use mathlib.Core.List.{List, [], _∷_, _++_, map}
 use mathlib.Core.Logic.{_≢_}
 use Prim.Native.Nat.{ℕ, zero, suc, _+_, _<_}
@@ -27,7 +27,7 @@ use Rattle.rules.specs.Keys.{fullKey, firstDay, endDay, sharesDay, sameParent}
 use Rattle.rules.specs.Change.{clashes}
 use Rattle.bridge.proofs.Tests.{all-cons, all-head, all-tail}
 use Rattle.bridge.proofs.CountLaws.{any-neither}
-use Rattle.bridge.proofs.KeyLaws.{and-comm, key-sym}
+use Rattle.bridge.proofs.KeyLaws.{key-sym}
 use Rattle.laws.specs.Windows.{Windowed}
 
 -- ---- lists

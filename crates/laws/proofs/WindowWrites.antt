@@ -1,7 +1,7 @@
 -- A row change that 24 lets pass keeps the windows of parent rows apart.
 -- Assumes nothing.
 use mathlib.Core.Path.{_≡_, refl, sym, _∙_, ap, ap₂, subst}
-use mathlib.Core.Bool.{Bool, true, false, _&&_, _||_, true≢false}
+use mathlib.Core.Bool.{Bool, true, false, _&&_, _||_, true≢false, and-false}
 use mathlib.Core.List.{List, []}
 use mathlib.Core.Logic.{_≢_}
 use Prim.Native.Nat.{ℕ, suc, _≤_}
@@ -18,7 +18,6 @@ use Rattle.rules.specs.Values.{natOf}
 use Rattle.rules.specs.Rows.{Row, Tables, rowAt, putRow, overwrite, live, liveState}
 use Rattle.rules.specs.Keys.{fullKey, firstDay, endDay, sharesDay, sameParent}
 use Rattle.rules.specs.Change.{clashes, windowBroken, badWindow}
-use Rattle.bridge.proofs.Tests.{and-none}
 use Rattle.bridge.proofs.CountLaws.{any-neither}
 use Rattle.bridge.proofs.Shapes.{Shaped}
 use Rattle.laws.specs.Windows.{Windowed, parentRow, WindowsApart}
@@ -37,7 +36,7 @@ not-full k x w y h = rw h refl
 -- a key that is not there has no window
 no-key : (t r : ℕ) (new : Row) (rows : List Row) → badWindow t r new rows noKey ≡ false
 unfolding badWindow any
-no-key t r new rows = ap (λ b. (eqb 0 t && true) && b) (and-none (fullKey (parentKey noKey) new)) ∙ and-none (eqb 0 t && true)
+no-key t r new rows = ap (λ b. (eqb 0 t && true) && b) (and-false (fullKey (parentKey noKey) new)) ∙ and-false (eqb 0 t && true)
 
 or-neither : (a b : Bool) → a || b ≡ false → (a ≡ false) × (b ≡ false)
 or-neither true b h = absurd (true≢false h)

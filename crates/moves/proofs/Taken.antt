@@ -1,7 +1,7 @@
 -- The child rows that a write strands are those that the old row's actions take and that no other parent row serves.
 -- Assumes nothing.
 use mathlib.Core.Path.{_≡_, refl, sym, _∙_, ap}
-use mathlib.Core.Bool.{Bool, true, false, not, _&&_, false≢true}
+use mathlib.Core.Bool.{Bool, true, false, not, _&&_, false≢true, and-false, and-true, and-comm}
 use mathlib.Core.List.{List, [], _∷_}
 use Prim.Native.Nat.{ℕ}
 use borrow.Author.Tests.{not-false}
@@ -14,7 +14,7 @@ use Rattle.rules.specs.Rows.{Row, Tables, live, nullAt}
 use Rattle.rules.specs.Keys.{fullKey, halfKey, mapsTo, due, serves, takes, sameParentKey, fires}
 use Rattle.rules.specs.Change.{clashes}
 use Rattle.bridge.proofs.CountLaws.{any-less, count-none}
-use Rattle.bridge.proofs.Tests.{and-none, fails}
+use Rattle.bridge.proofs.Tests.{fails}
 use Rattle.bridge.proofs.MapLaws.{parent-full, served-same, served-twin, served-clashes}
 use Rattle.bridge.proofs.NullKeys.{mapped-due, half-unserved}
 use Rattle.bridge.proofs.BrokenKeys.{broken-due, broken-still}
@@ -24,18 +24,14 @@ use Rattle.moves.specs.Movement.{pick, exceptIf, unserved, stranded, str
 
 -- where m makes d and l the same
 swap : (d l n m u : Bool) → (m ≡ true → d ≡ l) → d && ((n && m) && u) ≡ n && ((l && m) && u)
-swap d l true true u h = ap (λ b. b && u) (h refl) ∙ by l u
-  where
-    by : (l u : Bool) → l && u ≡ (l && true) && u
-    by true u = refl
-    by false u = refl
-swap d l false true u h = and-none d
-swap d l n false u h = ap (λ b. d && (b && u)) (and-none n) ∙ and-none d ∙ sym (ap (λ b. n && (b && u)) (and-none l) ∙ and-none n)
+swap d l true true u h = ap (λ b. b && u) (h refl ∙ sym (and-true l))
+swap d l false true u h = and-false d
+swap d l n false u h = ap (λ b. d && (b && u)) (and-false n) ∙ and-false d ∙ sym (ap (λ b. n && (b && u)) (and-false l) ∙ and-false n)
 
 -- a test that m turns into another
 turned : (l m u g : Bool) → (m ≡ true → u ≡ g) → (l && m) && u ≡ (l && m) && g
 turned l true u g h = ap (λ b. (l && true) && b) (h refl)
-turned l false u g h = ap (λ b. b && u) (and-none l) ∙ sym (ap (λ b. b && g) (and-none l))
+turned l false u g h = ap (λ b. b && u) (and-false l) ∙ sym (ap (λ b. b && g) (and-false l))
 
 count-given : (b : Bool) (p : Row → Bool) (xs : List Row) → count (λ c. b && p c) xs ≡ pick b (count p xs)
 unfolding pick
@@ -45,7 +41,7 @@ count-given false p xs = count-none (λ c. false) (λ c. refl) xs
 -- a half-filled child row is not stranded where x becomes y; nor is it mended, for what that mends is what y, becoming x, strands
 pub half-stays : (k : ForeignKey) → length (k .childColumns) ≡ length (k .parentColumns) → (x y : Row) (others : List Row) (c : Row) → halfKey (childKey k) c ≡ true → stranded k x y others c ≡ false
 unfolding stranded
-half-stays k e x y others c h = ap (λ b. due k c && (b && unserved k y others c)) (half-unserved k e c h x) ∙ and-none (due k c)
+half-stays k e x y others c h = ap (λ b. due k c && (b && unserved k y others c)) (half-unserved k e c h x) ∙ and-false (due k c)
 
 -- ---- one foreign key, its columns as many on both sides
 module _ (k : ForeignKey) (same-count : length (k .childColumns) ≡ length (k .parentColumns)) (x y : Row) (others : List Row) where
@@ -65,7 +61,7 @@ module _ (k : ForeignKey) (same-count : length (k .childColumns) ≡ length (k .
     where
       by : (m : Bool) → mapsTo k c x ≡ m → (live c && m) && unserved k y others c ≡ false
       by true e = absurd (false≢true (sym (parent-full k same-count x c e) ∙ h))
-      by false e = ap (λ b. b && unserved k y others c) (and-none (live c))
+      by false e = ap (λ b. b && unserved k y others c) (and-false (live c))
 
   -- none, where y has x's key
   left-same : not (sameParentKey k x y) ≡ false → (c : Row) → left c ≡ false
@@ -73,8 +69,8 @@ module _ (k : ForeignKey) (same-count : length (k .childColumns) ≡ length (k .
   left-same h c = by (mapsTo k c x) refl
     where
       by : (m : Bool) → mapsTo k c x ≡ m → (live c && m) && (not (serves k c y) && not (any (serves k c) others)) ≡ false
-      by true e = ap (λ b. (live c && true) && (not b && not (any (serves k c) others))) (served-same k same-count x c e y (not-false (sameParentKey k x y) h)) ∙ and-none (live c && true)
-      by false e = ap (λ b. b && (not (serves k c y) && not (any (serves k c) others))) (and-none (live c))
+      by true e = ap (λ b. (live c && true) && (not b && not (any (serves k c) others))) (served-same k same-count x c e y (not-false (sameParentKey k x y) h)) ∙ and-false (live c && true)
+      by false e = ap (λ b. b && (not (serves k c y) && not (any (serves k c) others))) (and-false (live c))
 
   -- where no other row's window clashes with x's, no other row serves a row that x's actions take
   left-clear : (w : Window) → k .windows ≡ w ∷ [] → any (clashes k x w) others ≡ false → (c : Row) → left c ≡ takes k x c && not (serves k c y)
@@ -82,10 +78,6 @@ module _ (k : ForeignKey) (same-count : length (k .childColumns) ≡ length (k .
   left-clear w one h c =
       turned (live c) (mapsTo k c x) (not (serves k c y) && not (any (serves k c) others)) (not (serves k c y))
       (λ e. ap (λ b. not (serves k c y) && not b) (any-less (serves k c) (clashes k x w) (served-clashes k same-count w one x c e) others h) ∙ and-true (not (serves k c y)))
-    where
-      and-true : (b : Bool) → b && true ≡ b
-      and-true true = refl
-      and-true false = refl
 
   -- without a window: all of them, or none where another row has x's key
   left-twin : k .windows ≡ [] → (c : Row) → left c ≡ (not (sameParentKey k x y) && not (any (sameParentKey k x) others)) && takes k x c
@@ -93,13 +85,7 @@ module _ (k : ForeignKey) (same-count : length (k .childColumns) ≡ length (k .
   left-twin none c =
       turned (live c) (mapsTo k c x) (not (serves k c y) && not (any (serves k c) others)) (not (sameParentKey k x y) && not (any (sameParentKey k x) others))
       (λ e i. not (served-twin k same-count x c e none y i) && not (any (λ p. served-twin k same-count x c e none p i) others))
-      ∙ and-swap (live c && mapsTo k c x) (not (sameParentKey k x y) && not (any (sameParentKey k x) others))
-    where
-      and-swap : (a b : Bool) → a && b ≡ b && a
-      and-swap true true = refl
-      and-swap true false = refl
-      and-swap false true = refl
-      and-swap false false = refl
+      ∙ and-comm (live c && mapsTo k c x) (not (sameParentKey k x y) && not (any (sameParentKey k x) others))
 
 pub pick-zero : (b : Bool) → pick b 0 ≡ 0
 unfolding pick

@@ -2,16 +2,15 @@
 -- Assumes nothing.
 use mathlib.Core.Path.{_≡_, refl, sym, ap, _∙_}
 use mathlib.Core.Bool.{Bool, true, false, not, _&&_, and-true}
-use mathlib.Core.List.{List, [], _∷_}
+use mathlib.Core.List.{List}
 use Prim.Native.Nat.{ℕ, _≤_, _<_}
 use native.Mathlib.Omega.{arith}
-use borrow.Author.Tests.{eqb-false, not-true, not-false}
-use lib.Dec.{eqb}
+use borrow.Author.Tests.{not-true, not-false}
 use lib.ListN.{length}
 use Rattle.schema.specs.declared.SchemaAnswer.the-variants.{Accepted}
 use Rattle.schema.specs.Bytes.{bit}
 use Rattle.schema.specs.Marks.{Marks}
-use Rattle.schema.specs.Records.{Window, ForeignKey, keyOf}
+use Rattle.schema.specs.Records.{ForeignKey, keyOf}
 use Rattle.schema.specs.Fields.{schemaOf}
 use Rattle.schema.specs.Check.{checkSchema}
 use Rattle.schema.proofs.SchemaLaws.{accepted-valid}
@@ -21,27 +20,9 @@ use Rattle.bridge.proofs.Tests.{fails}
 use Rattle.rows.specs.KeyColumns.{PlainKey}
 use Rattle.windows.specs.WindowKey.{WindowedKey}
 use Rattle.table_keys.specs.declared.TableKeys.{TableKeys}
-use Rattle.table_keys.specs.Touched.{touches, wholeAt, windowAt, WindowKeys, KeysOf}
-use Rattle.table_keys.proofs.TouchLaws.{no-windows, in-windowed}
+use Rattle.table_keys.specs.Touched.{wholeAt, windowAt, WindowKeys, KeysOf}
+use Rattle.table_keys.proofs.TouchLaws.{whole-at, window-whole, window-none, no-windows, in-windowed}
 use Rattle.row_orphans.specs.RowOrphans.{PlainKeys}
-
--- ---- one foreign key
-module _ (t : ℕ) (k : ForeignKey) where
-  whole-at : wholeAt t k ≡ true → k .broken ≡ false
-  unfolding wholeAt
-  whole-at h = fails (k .broken) (and-right (touches t k) (not (k .broken)) h)
-
-  window-whole : windowAt t k ≡ true → wholeAt t k ≡ true
-  unfolding windowAt
-  window-whole h = and-left (wholeAt t k) (eqb (length (k .windows)) 1) h
-
-  window-none : wholeAt t k ≡ true → windowAt t k ≡ false → length (k .windows) ≤ 1 → k .windows ≡ []
-  unfolding windowAt
-  window-none h n few = go (k .windows) (eqb-false (length (k .windows)) 1 (sym (rw h refl) ∙ n)) few
-    where
-      go : (ws : List Window) → (length ws ≡ 1 → ⊥) → length ws ≤ 1 → ws ≡ []
-      go [] n few = refl
-      go (w ∷ ws) n few = absurd (n (omega (arith, few)))
 
 -- ---- the mask of those without
 

@@ -1,7 +1,7 @@
 -- Keys as plain values: what a row must hold to have one, and the key of an image.
 -- Assumes nothing.
 use mathlib.Core.Path.{_≡_, refl, sym, ap, ap₂, _∙_}
-use mathlib.Core.Bool.{Bool, true, false, not, _&&_}
+use mathlib.Core.Bool.{Bool, true, false, not, _&&_, and-true, and-false}
 use mathlib.Core.List.{List, _∷_}
 use Prim.Native.Nat.{ℕ, suc, _+_, _≤_, _<_}
 use native.Mathlib.Omega.{arith}
@@ -18,7 +18,7 @@ use Rattle.rules.specs.Found.{cellIs}
 use Rattle.rules.specs.KeyValues.{keyValues, holdsKey, hasKey}
 use Rattle.bridge.specs.Ready.{rowIn}
 use Rattle.bridge.proofs.Tests.{fails, and-same}
-use Rattle.bridge.proofs.KeyLaws.{same-sym, and-comm}
+use Rattle.bridge.proofs.KeyLaws.{same-sym}
 use Rattle.bridge.proofs.ValueLaws.{key-values}
 use Rattle.folding.proofs.FoldLaws.{kept-value}
 use Rattle.rows.specs.declared.SoughtKey.{SoughtKey}
@@ -40,12 +40,12 @@ module _ (a : List ℤ) (p w : ℕ) (f : Bool) (c : ℕ) (v : ℤ) (h : suc c < 
   unfolding cellIs
   value-differs e =
       let filled = not (nullAt (rowIn a p w) c) in
-      sym (ap (λ (t : Bool). filled && t) (value-is e) ∙ and-comm filled false)
+      sym (ap (λ (t : Bool). filled && t) (value-is e) ∙ and-false filled)
 
   pub value-same : sameWord (folded f (getD a (p + c + 1) 𝟘)) v ≡ true → not (bit c (natOf (getD a p 𝟘))) ≡ cellIs f false v c (rowIn a p w)
   unfolding cellIs
   value-same e =
-      sym (and-same (ap not (null-in a p w c (omega arith))) (value-is e) ∙ and-comm (not (bit c (natOf (getD a p 𝟘)))) true)
+      sym (and-same (ap not (null-in a p w c (omega arith))) (value-is e) ∙ and-true (not (bit c (natOf (getD a p 𝟘)))))
 
 -- ---- all of them
 module _ (f n : ℕ) (cs : List ℕ) (vs : List ℤ) (x : Row) where
@@ -73,10 +73,10 @@ module _ (f n : ℕ) (cs : List ℕ) (vs : List ℤ) (x : Row) where
 -- ---- of a live row
 module _ (x : Row) {b : Bool} where
   not-held : b ≡ false → false ≡ live x && b
-  not-held e = sym (ap (λ (t : Bool). live x && t) e ∙ and-comm (live x) false)
+  not-held e = sym (ap (λ (t : Bool). live x && t) e ∙ and-false (live x))
 
   held-live : b ≡ true → live x ≡ live x && b
-  held-live e = sym (ap (λ (t : Bool). live x && t) e ∙ and-comm (live x) true)
+  held-live e = sym (ap (λ (t : Bool). live x && t) e ∙ and-true (live x))
 
 module _ (x : Row) where
   pub value-not : (c : ℕ) (v : ℤ) → cellIs false false v c x ≡ false → false ≡ hasValue c v x

@@ -1,7 +1,7 @@
 -- The first row that passes a test; whether there is one, and how many.
 -- Assumes nothing.
 use mathlib.Core.Path.{_≡_, refl, sym, _∙_, ap}
-use mathlib.Core.Bool.{Bool, true, false, _&&_, _||_, false≢true}
+use mathlib.Core.Bool.{Bool, true, false, _&&_, _||_, false≢true, and-true}
 use mathlib.Core.List.{List, [], _∷_}
 use Prim.Native.Nat.{ℕ, zero, suc, _+_, _*_, _-_, _≤_, _<_}
 use native.Mathlib.Nat.{zero-add}
@@ -17,7 +17,6 @@ use Rattle.rules.specs.Rows.{Row, live}
 use Rattle.rules.specs.Found.{cellIs}
 use Rattle.rules.specs.KeyValues.{holdsKey, hasKey}
 use Rattle.bridge.proofs.CountLaws.{any-cons}
-use Rattle.bridge.proofs.KeyLaws.{and-comm}
 use Rattle.bridge.specs.Ready.{rowIn}
 use Rattle.rows.specs.declared.SoughtKey.{SoughtKey}
 use Rattle.rows.specs.declared.TableRows.{TableRows}
@@ -166,5 +165,5 @@ module _ (key : SoughtKey) {w : ℕ} (k : SoughtIn w key) (e : key .n ≡ 1) whe
   one-value plain row =
       rw (one-part 0 (key .cs) (k .columns .size), one-part 𝟘 (key .vs) (k .size))
       (ap (λ (b : Bool). live row && b)
-      (and-comm true (cellIs false false (getD (key .vs) 0 𝟘) (getD (key .cs) 0 0) row)
+      (sym (and-true (cellIs false false (getD (key .vs) 0 𝟘) (getD (key .cs) 0 0) row))
       ∙ ap (λ (f : Bool). cellIs f false (getD (key .vs) 0 𝟘) (getD (key .cs) 0 0) row && true) (sym (folds-get (key .folded) (key .n) 0 (omega (arith, e)) ∙ ap (bit 0) plain ∙ bit-none 0))))

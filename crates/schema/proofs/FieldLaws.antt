@@ -2,6 +2,7 @@
 use mathlib.Core.Path.{_≡_, refl, sym, ap, _∙_}
 use mathlib.Core.Bool.{Bool, true, false, not, cond, _&&_}
 use mathlib.Core.List.{List, [], _∷_, _++_, map, append-nil}
+use mathlib.Core.Logic.{_⊎_, inl, inr}
 use Prim.Native.Nat.{ℕ, zero, suc, _+_, _-_, _<_, _≤_}
 use native.Mathlib.Nat.{zero-add}
 use native.Mathlib.Omega.{arith}
@@ -12,6 +13,7 @@ use lib.IntN.{ℤ, pos}
 use lib.ListN.{length, getD, take, drop}
 use lib.Seq.{getD-take}
 use Rattle.schema.specs.declared.Action.{Action}
+use Rattle.schema.specs.declared.Action.the-variants.{NoAction, Restrict}
 use Rattle.schema.specs.declared.Match.{Match}
 use Rattle.schema.specs.declared.SchemaAnswer.the-variants.{Accepted}
 use Rattle.schema.specs.Ranges.{allFrom, anyFrom, listFrom}
@@ -56,6 +58,13 @@ columns-are bs p n w {cs} {r} h e below q =
         within = λ i l. let g : getD r i 0 ≡ getD cs i 0 = sym (getD-take n r i 0 l) ∙ ap (λ (x : List ℕ). getD x i 0) t in omega (arith, below i l);
       },
     )
+
+-- an action code below 2
+low-action : (c : ℕ) → c < 2 → {a : Action} → Fields.actionFrom c ≡ a → (a ≡ NoAction) ⊎ (a ≡ Restrict)
+unfolding Fields.actionFrom
+low-action zero l e = inl (sym e)
+low-action (suc zero) l e = inr (sym e)
+low-action (suc (suc c)) l e = absurd (omega arith)
 
 module _ (bs : List ℕ) (acc : Check.checkSchema bs ≡ Accepted) where
   w : Check.wellFormed bs ≡ true
@@ -229,6 +238,13 @@ module _ (bs : List ℕ) (acc : Check.checkSchema bs ≡ Accepted) where
         by zero l = refl
         by (suc zero) l = refl
         by (suc (suc n)) l = absurd (omega arith)
+
+    -- a windowed key takes no action, or refuses
+    pub window-actions : length (keyOf (schemaOf bs) k .windows) ≡ 1
+        → ((keyOf (schemaOf bs) k .onDelete ≡ NoAction) ⊎ (keyOf (schemaOf bs) k .onDelete ≡ Restrict)) × ((keyOf (schemaOf bs) k .onUpdate ≡ NoAction) ⊎ (keyOf (schemaOf bs) k .onUpdate ≡ Restrict))
+    window-actions one =
+        let low = codes-here .low (read-windows refl .0 ∙ one) in
+        (low-action (Fields.onDeleteOf bs k) (low .0) (read-on-delete refl), low-action (Fields.onUpdateOf bs k) (low .1) (read-on-update refl))
 
     -- the end's column is the one behind the last parent column
     pub read-end : (n : ℕ) → n ≡ length (childKey (keyOf (schemaOf bs) k)) → {r : ℕ} → r ≡ Bytes.byte bs (Fields.keyStart bs k + (9 + n)) → r + 1 ≡ Fields.endOf bs k

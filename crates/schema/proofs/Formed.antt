@@ -6,7 +6,7 @@ use Prim.Native.Nat.{ℕ, _+_, _*_, _<_, _≤_}
 use native.Mathlib.Nat.{zero-add}
 use native.Mathlib.Omega.{arith}
 use borrow.Author.Tests.{leb-true, ltb-true, eqb-true}
-use lib.Dec.{leb, eqb}
+use lib.Dec.{leb, ltb, eqb}
 use lib.ListN.{length}
 use Rattle.schema.specs.Ranges.{allFrom}
 use Rattle.schema.specs.Bounds.{Within}
@@ -58,6 +58,7 @@ pub record Codes (bs : List ℕ) (k : ℕ) : Type 0 where
   pub width : Within 1 4 (Fields.widthOf bs k)
   pub windowed : Fields.windowedOf bs k ≤ 1
   pub pairs : Within 1 4 (Fields.pairsOf bs k)
+  pub low : Fields.windowedOf bs k ≡ 1 → (Fields.onDeleteOf bs k < 2) × (Fields.onUpdateOf bs k < 2)
 
 -- a windowed key has a pair beside its window
 pairs-within : (bs : List ℕ) (k : ℕ) → Within 1 4 (Fields.widthOf bs k) → Fields.windowedOf bs k ≤ 1 → Check.windowedRule bs k ≡ true → Within 1 4 (Fields.pairsOf bs k)
@@ -70,6 +71,13 @@ pairs-within bs k n w e = by (eqb (Fields.windowedOf bs k) 0) refl
         let two : 2 ≤ Fields.widthOf bs k = leb-true _ _ (and-left (leb 2 (Fields.widthOf bs k)) _ (rw z at e)) in
         record { low = omega (arith, two, w); high = omega (arith, n .high) }
 
+-- and both actions below 2
+low-actions : (bs : List ℕ) (k : ℕ) → Check.windowedRule bs k ≡ true → Fields.windowedOf bs k ≡ 1 → (Fields.onDeleteOf bs k < 2) × (Fields.onUpdateOf bs k < 2)
+unfolding Check.windowedRule
+low-actions bs k e w =
+    let both = and-right (leb 2 (Fields.widthOf bs k)) (ltb (Fields.onDeleteOf bs k) 2 && ltb (Fields.onUpdateOf bs k) 2) (rw w at e) in
+    (ltb-true _ _ (and-left (ltb (Fields.onDeleteOf bs k) 2) _ both), ltb-true _ _ (and-right (ltb (Fields.onDeleteOf bs k) 2) _ both))
+
 pub codes : (bs : List ℕ) (k : ℕ) → Check.codeRules bs k ≡ true → Codes bs k
 unfolding Check.codeRules
 codes bs k e =
@@ -81,6 +89,7 @@ codes bs k e =
       width = within-is _ _ _ (every-at _ e 4 (omega arith));
       windowed = leb-true _ _ (every-at _ e 6 (omega arith));
       pairs = pairs-within bs k (within-is _ _ _ (every-at _ e 4 (omega arith))) (leb-true _ _ (every-at _ e 6 (omega arith))) (every-at _ e 7 (omega arith));
+      low = low-actions bs k (every-at _ e 7 (omega arith));
     }
 
 -- what the rules of a table's record say, as tests

@@ -1,6 +1,6 @@
 -- The foreign keys of an accepted schema. Assumes nothing.
 use mathlib.Core.Path.{_≡_, refl, sym, ap, _∙_}
-use mathlib.Core.Bool.{Bool, true, false, not, cond, false≢true, _&&_}
+use mathlib.Core.Bool.{Bool, true, false, not, cond, false≢true, _&&_, and-false}
 use mathlib.Core.List.{List, [], _∷_, _++_, map, append-nil}
 use mathlib.Core.Logic.{_⊎_, inl, inr}
 use Prim.Native.Nat.{ℕ, zero, suc, _+_, _-_, _/_, _^_, _<_, _≤_}
@@ -19,7 +19,7 @@ use Rattle.schema.specs.Fields
 use Rattle.schema.specs.Fields.{tableFrom, keyFrom, schemaOf}
 use Rattle.schema.specs.Check
 use Rattle.schema.specs.ParentKey.{Mem, ParentKey}
-use Rattle.schema.proofs.RangeLaws.{and-left, and-right, and-false, all-at, all-each}
+use Rattle.schema.proofs.RangeLaws.{and-left, and-right, all-at, all-each}
 use Rattle.schema.proofs.Formed.{Codes, Formed, formed, and3}
 use Rattle.schema.proofs.ListLaws.{list-last}
 use Rattle.schema.proofs.MaskLaws.{Distinct, Found, mask-each, mask-only, mask-below, quotient-none}

@@ -17,10 +17,6 @@ pub and-right : (a b : Bool) → a && b ≡ true → b ≡ true
 and-right true b h = h
 and-right false b h = absurd (false≢true h)
 
-pub and-false : (a : Bool) → a && false ≡ false
-and-false true = refl
-and-false false = refl
-
 and-head : (a : Bool) (bs : List Bool) → andAll a bs ≡ true → a ≡ true
 unfolding andAll
 and-head a [] h = h

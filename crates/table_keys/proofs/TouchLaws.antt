@@ -12,8 +12,10 @@ use Rattle.schema.specs.Bytes.{bit}
 use Rattle.schema.specs.Marks.{marked, Marks}
 use Rattle.schema.specs.Records.{Window, ForeignKey, keyOf}
 use Rattle.schema.specs.Fields.{schemaOf}
+use Rattle.schema.proofs.RangeLaws.{and-left, and-right}
 use Rattle.schema.proofs.MaskLaws.{bit-none, marks-start, marks-more}
 use Rattle.rules.specs.Keys.{uses}
+use Rattle.bridge.proofs.Tests.{fails}
 use Rattle.table_keys.specs.Touched.{touches, wholeAt, brokenAt, windowAt, brokenUsed, WholeKeys, WindowKeys, withKey, KeysOf}
 use Rattle.table_keys.specs.declared.TableKeys.{TableKeys}
 
@@ -46,26 +48,21 @@ module _ (t : ℕ) (k : ForeignKey) where
   unfolding wholeAt windowAt brokenAt
   touched h = (sym (rw h), (sym (rw h), sym (rw h)))
 
-  whole-at : wholeAt t k ≡ true → k .broken ≡ false
+  pub whole-at : wholeAt t k ≡ true → k .broken ≡ false
   unfolding wholeAt
-  whole-at h = go (touches t k) (k .broken) h refl
-    where
-      go : (a b : Bool) → a && not b ≡ true → k .broken ≡ b → k .broken ≡ false
-      go true false e f = f
-      go true true e f = absurd (false≢true e)
-      go false b e f = absurd (false≢true e)
+  whole-at h = fails (k .broken) (and-right (touches t k) (not (k .broken)) h)
 
-  -- a key of the windowed ones has one window
+  -- a key of the windowed ones is not broken and has one window
+  pub window-whole : windowAt t k ≡ true → wholeAt t k ≡ true
+  unfolding windowAt
+  window-whole h = and-left (wholeAt t k) (eqb (length (k .windows)) 1) h
+
   window-at : windowAt t k ≡ true → length (k .windows) ≡ 1
   unfolding windowAt
-  window-at h = eqb-true (length (k .windows)) 1 (go (wholeAt t k) h)
-    where
-      go : {b : Bool} (a : Bool) → a && b ≡ true → b ≡ true
-      go true e = e
-      go false e = absurd (false≢true e)
+  window-at h = eqb-true (length (k .windows)) 1 (and-right (wholeAt t k) (eqb (length (k .windows)) 1) h)
 
   -- another that is not broken has none
-  window-none : wholeAt t k ≡ true → windowAt t k ≡ false → length (k .windows) ≤ 1 → k .windows ≡ []
+  pub window-none : wholeAt t k ≡ true → windowAt t k ≡ false → length (k .windows) ≤ 1 → k .windows ≡ []
   unfolding windowAt
   window-none h n f = go (k .windows) (eqb-false (length (k .windows)) 1 (sym (rw h refl) ∙ n)) f
     where

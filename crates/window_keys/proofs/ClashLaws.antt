@@ -1,7 +1,7 @@
 -- Refusal 24, by one foreign key and by those that a mask tells of.
 -- Assumes nothing.
 use mathlib.Core.Path.{_≡_, refl, sym, ap, _∙_}
-use mathlib.Core.Bool.{Bool, true, false, not, _&&_, _||_, true≢false}
+use mathlib.Core.Bool.{Bool, true, false, not, _&&_, _||_, true≢false, and-false}
 use mathlib.Core.List.{List, [], _∷_}
 use Prim.Native.Nat.{ℕ, suc, _≤_, _<_}
 use native.Mathlib.Omega.{arith}
@@ -21,7 +21,7 @@ use Rattle.rules.specs.Lists.{any, except}
 use Rattle.rules.specs.Rows.{Row}
 use Rattle.rules.specs.Keys.{fullKey, firstDay, endDay}
 use Rattle.rules.specs.Change.{clashes, windowBroken, badWindow}
-use Rattle.bridge.proofs.Tests.{and-none, fails}
+use Rattle.bridge.proofs.Tests.{fails}
 use Rattle.rows.specs.declared.SoughtKey.{SoughtKey}
 use Rattle.rows.specs.Sought.{SoughtOf}
 use Rattle.table_keys.specs.Touched.{touches, wholeAt, windowAt, WindowKeys}
@@ -45,7 +45,7 @@ module _ (t r : ℕ) (new : Row) (rows : List Row) (k : ForeignKey) where
   unfolding badWindow
   bad-null e =
       let asked = eqb (k .parent) t && not (k .broken) in
-      sym (ap (λ (b : Bool). asked && (b && any (windowBroken k r new rows) (k .windows))) e ∙ and-none asked)
+      sym (ap (λ (b : Bool). asked && (b && any (windowBroken k r new rows) (k .windows))) e ∙ and-false asked)
 
   module _ (at : k .parent ≡ t) (whole : k .broken ≡ false) (w : Window) (one : k .windows ≡ w ∷ []) (full : fullKey (parentKey k) new ≡ true) where
     by-window : windowBroken k r new rows w ≡ badWindow t r new rows k
@@ -76,7 +76,7 @@ module _ (t r : ℕ) (new : Row) (rows : List Row) (k : ForeignKey) where
       go : (c p b : Bool) (ws : List Window) → length ws ≤ 1 → ((c || p) && not b) && eqb (length ws) 1 ≡ false → (p && not b) && (fullKey (parentKey k) new && any (windowBroken k r new rows) ws) ≡ false
       go c false b ws l e = refl
       go c true true ws l e = refl
-      go c true false [] l e = and-none (fullKey (parentKey k) new)
+      go c true false [] l e = and-false (fullKey (parentKey k) new)
       go true true false (w ∷ []) l e = absurd (true≢false e)
       go false true false (w ∷ []) l e = absurd (true≢false e)
       go c true false (w ∷ v ∷ ws) l e = absurd (omega arith)

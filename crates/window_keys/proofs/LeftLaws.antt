@@ -1,7 +1,7 @@
 -- Child rows that map to a parent row and that it leaves behind, as a search finds them.
 -- Assumes nothing.
 use mathlib.Core.Path.{_≡_, refl, sym, ap, _∙_}
-use mathlib.Core.Bool.{Bool, true, false, not, _&&_, _||_}
+use mathlib.Core.Bool.{Bool, true, false, not, _&&_, _||_, true≢false, and-true}
 use mathlib.Core.List.{List, []}
 use Prim.Native.Nat.{ℕ, zero, suc, _+_, _*_, _≤_, _<_}
 use native.Mathlib.Omega.{arith}
@@ -19,7 +19,7 @@ use Rattle.rules.specs.Keys.{fullKey, mapsTo, serves, takes, sameParentKey, fir
 use Rattle.rules.specs.Change.{clashes}
 use Rattle.bridge.specs.Fit.{workOf}
 use Rattle.bridge.specs.Ready.{Ready, rowIn}
-use Rattle.bridge.proofs.CountLaws.{count-some}
+use Rattle.bridge.proofs.CountLaws.{any-never, count-none, count-some}
 use Rattle.bridge.proofs.Tests.{and-both}
 use Rattle.bridge.proofs.KeyLaws.{full-same, serves-same, get-padded}
 use Rattle.bridge.proofs.MapLaws.{child-full}
@@ -36,8 +36,9 @@ use Rattle.scans.proofs.ScanLaws.{before-stands, after-stands}
 use Rattle.windows.specs.declared.Days.{Days}
 use Rattle.windows.specs.declared.WindowKey.{WindowKey}
 use Rattle.windows.specs.Days.{DaysIn, isOn}
-use Rattle.windows.specs.WindowKey.{windowOf, WindowColumns, childDays}
-use Rattle.windows.proofs.KeyDays.{some-pairs, child-days-in, taken-on}
+use Rattle.windows.specs.WindowKey.{windowOf, WindowColumns, leftDays}
+use Rattle.windows.proofs.KeyDays.{some-pairs}
+use Rattle.windows.proofs.LeftDays.{left-days-in, left-found, left-over}
 use Rattle.window_keys.specs.Left.{leftBy}
 use Rattle.window_keys.proofs.OrphanLaws.{whole, same-count}
 
@@ -50,10 +51,6 @@ not-none zero = refl
 not-none (suc n) = ap not (ne-eqb (suc n) 0 (λ e. absurd (omega (arith, e)))) ∙ sym (lt-ltb 0 (suc n) (omega arith))
 
 -- ---- one child row
-
-and-true : (b : Bool) → b && true ≡ b
-and-true true = refl
-and-true false = refl
 
 module _ (k : ForeignKey) (y : Row) (others : List Row) (c : Row) where
   pub left-served : (clear : Bool) → serves k c y ≡ true → false ≡ leftBy clear k y others c
@@ -120,21 +117,28 @@ module _ (b : List ℕ) (k : ℕ) (x : WindowKey) (h : WindowColumns b k x) wher
   abbrev K : ForeignKey
   K = keyOf (schemaOf b) k
 
-  -- child rows that map to a parent row are searched by its pairs and its window
-  module _ (old : Row) {key : SoughtKey} (s : SoughtOf (x .pairs .folded) (x .pairs .n) (x .pairs .cs) (x .pairs .ps) old key) {days : Days} (d : days ≡ childDays old x) where
+  -- child rows that map to a parent row with the old image and may not map to it with the new one are searched by the old pairs and days
+  module _ (old new : Row) {key : SoughtKey} (s : SoughtOf (x .pairs .folded) (x .pairs .n) (x .pairs .cs) (x .pairs .ps) old key) {days : Days} (d : days ≡ leftDays old new x) where
     pub taken-ready : (t : TableRows) → t .width ≡ suc (tableOf (schemaOf b) (K .child) .columns) → ((1 ≤ key .n) × SoughtIn (t .width) key) × DaysIn (t .width) days
-    taken-ready t w = rw w (sought-ready s (some-pairs b k x h) (h .columns .columns .child-within), rw d (child-days-in b k x h old))
+    taken-ready t w = rw w (sought-ready s (some-pairs b k x h) (h .columns .columns .child-within), rw d (left-days-in b k x h old new))
 
     module _ (full : fullKey (parentKey K) old ≡ true) where
-      taken : (row : Row) → isOn key days row ≡ takes K old row
-      taken row = ap (λ (d : Days). isOn key d row) d ∙ taken-on b k x h old full s row
-
-      -- those that are found map to it
+      -- those that are found map to the old image
       pub found-taken : (row : Row) → isOn key days row ≡ true → takes K old row ≡ true
-      found-taken row f = sym (taken row) ∙ f
+      found-taken row f = left-found b k x h old new full s row (sym (ap (λ (d : Days). isOn key d row) d) ∙ f)
 
-      pub count-found : (clear : Bool) (y : Row) (others rows : List Row) → count (leftRow (isOn key days) clear K y others) rows ≡ count (leftRow (takes K old) clear K y others) rows
-      count-found clear y others rows = λ i. count (λ c. taken c i && leftBy clear K y others c) rows
+      -- others are not left: they map to the new one, or not to the old one
+      found-same : (clear : Bool) (others : List Row) (c : Row) → leftRow (isOn key days) clear K new others c ≡ leftRow (takes K old) clear K new others c
+      found-same clear others c = by (isOn key days c) (takes K old c) refl refl
+        where
+          by : (f t : Bool) → isOn key days c ≡ f → takes K old c ≡ t → f && leftBy clear K new others c ≡ t && leftBy clear K new others c
+          by true true e g = refl
+          by true false e g = absurd (true≢false (sym (found-taken c e) ∙ g))
+          by false true e g = left-served K new others c clear (left-over b k x h old new full s c g (sym (ap (λ (d : Days). isOn key d c) d) ∙ e))
+          by false false e g = refl
+
+      pub count-found : (clear : Bool) (others rows : List Row) → count (leftRow (isOn key days) clear K new others) rows ≡ count (leftRow (takes K old) clear K new others) rows
+      count-found clear others rows = λ i. count (λ c. found-same clear others c i) rows
 
   -- ---- the rows of the two tables
 
@@ -169,6 +173,14 @@ module _ (b : List ℕ) (k : ℕ) (x : WindowKey) (h : WindowColumns b k x) wher
       ∙ count-some (leftRow (takes K old) true K new others) rows
       ∙ (λ i. any (λ c. takes K old c && left-clear K new others c i) rows)
 
+  -- none is, where each row that maps to the old image maps to the new one
+  pub none-left : (old new : Row) → ((c : Row) → takes K old c ≡ true → serves K c new ≡ true) → (rows : List Row) → false ≡ any (λ c. takes K old c && not (serves K c new)) rows
+  none-left old new kept rows = sym (any-never (λ c. takes K old c && not (serves K c new)) (λ c. by c (takes K old c) refl) rows)
+    where
+      by : (c : Row) (t : Bool) → takes K old c ≡ t → t && not (serves K c new) ≡ false
+      by c true e = ap not (kept c e)
+      by c false e = refl
+
   -- ---- the rows that are stranded
   module _ (t : ℕ) (old new : Row) (fired : fires new t old K ≡ true) where
     pub fires-full : fullKey (parentKey K) old ≡ true
@@ -194,6 +206,17 @@ module _ (b : List ℕ) (k : ℕ) (x : WindowKey) (h : WindowColumns b k x) wher
       left-stranded false e =
           (λ i. count (λ c. takes K old c && left-clear K new othersOf c i) childrenOf)
           ∙ sym (stranded-clear K t r old new tabs (same-count b k x h) (windowOf x) (h .window-is) (sym e) ∙ ap (λ (f : Bool). pick f (count (λ c. takes K old c && not (serves K c new)) childrenOf)) fired)
+
+      pub stranded-none : ((c : Row) → takes K old c ≡ true → serves K c new ≡ true) → 0 ≡ strandedRows K t r old new tabs
+      unfolding pick unserved
+      stranded-none kept =
+          sym (stranded-scan K t r old new tabs (same-count b k x h)
+          ∙ ap (λ (f : Bool). pick f (count (λ c. takes K old c && unserved K new othersOf c) childrenOf)) fired
+          ∙ count-none (λ c. takes K old c && unserved K new othersOf c) (λ c. by c (takes K old c) refl) childrenOf)
+        where
+          by : (c : Row) (t : Bool) → takes K old c ≡ t → t && (not (serves K c new) && not (any (serves K c) othersOf)) ≡ false
+          by c true e = rw (kept c e) refl
+          by c false e = refl
 
       module _ (p : K .parent ≡ t) {clash : Bool} (e : clash ≡ any (clashes K old (windowOf x)) (except r (getD tabs t []))) {c : ℕ} (q : c ≡ K .child) where
         abbrev isLeft : Row → Bool

@@ -213,7 +213,7 @@ fn count_left(
     let cs = pairs.cs;
     let ps = pairs.ps;
     let sought = rows::sought_key(x, pairs.folded, pairs.n, cs, ps);
-    let days = windows::child_days(x, key);
+    let days = windows::left_days(x, y, key);
     let mut m = 0;
     let mut j = windows::first_on(area, children, sought, days, 0);
     while j < n {
@@ -240,6 +240,9 @@ pub fn left_rows(
     requires { ⌜ (Placed (now schema) (now area) t r × WindowColumns (now schema) k key) × ((keyOf (schemaOf (now schema)) k .parent ≡ t) × (Keys.fires y t x (keyOf (schemaOf (now schema)) k) ≡ true)) ⌝ }
     ensures { λ z. ⌜ (z ≡ strandedRows (keyOf (schemaOf (now (schema .entry))) k) t r x y (workOf (schemaOf (now (schema .entry))) (now (area .entry)) .tabs)) × (z ≤ 1024) ⌝ }
 {
+    if windows::keeps_days(x, y, key) {
+        return 0;
+    }
     let clear = !has_clash(schema, area, k, t, r, x, key);
     let parents = rows::rows_of(schema, t);
     let child = fields::child(schema, k);
@@ -266,6 +269,9 @@ pub fn leaves_any(
     requires { ⌜ (Ready (now schema) (now area) × WindowColumns (now schema) k key) × (Keys.fullKey (parentKey (keyOf (schemaOf (now schema)) k)) old ≡ true) ⌝ }
     ensures { λ x. ⌜ x ≡ Lists.any (λ c. Keys.takes (keyOf (schemaOf (now (schema .entry))) k) old c && not (Keys.serves (keyOf (schemaOf (now (schema .entry))) k) c new)) (getD (workOf (schemaOf (now (schema .entry))) (now (area .entry)) .tabs) (keyOf (schemaOf (now (schema .entry))) k .child) []) ⌝ }
 {
+    if windows::keeps_days(old, new, key) {
+        return false;
+    }
     let children = rows::rows_of(schema, fields::child(schema, k));
     let parents = rows::rows_of(schema, fields::parent(schema, k));
     count_left(schema, area, k, children, parents, 0, true, old, new, key) != 0

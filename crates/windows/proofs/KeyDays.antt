@@ -1,7 +1,7 @@
 -- A foreign key with a window by its columns: its keys, whether actions follow, the rows that are searched by its pairs and days.
 -- Assumes nothing.
 use mathlib.Core.Path.{_≡_, refl, sym, ap, _∙_}
-use mathlib.Core.Bool.{Bool, true, false, not, _&&_, false≢true}
+use mathlib.Core.Bool.{Bool, true, false, not, _&&_, false≢true, and-false, and-true}
 use mathlib.Core.List.{List, [], _∷_, _++_, map}
 use Prim.Native.Nat.{ℕ, suc, _-_, _≤_, _<_}
 use native.Mathlib.Omega.{arith}
@@ -17,7 +17,7 @@ use Rattle.rules.specs.Lists.{any}
 use Rattle.rules.specs.Rows.{Row, live, nullAt, valueAt}
 use Rattle.rules.specs.Keys.{sameKey, fullKey, firstDay, endDay, isWithin, sharesDay, inWindow, sameWindow, mapsTo, serves, takes, sameParent, sameParentKey, fires}
 use Rattle.rules.specs.Change.{clashes}
-use Rattle.bridge.proofs.Tests.{and-none, and-assoc, and-same, and-both, fails}
+use Rattle.bridge.proofs.Tests.{and-assoc, and-same, and-both, fails}
 use Rattle.bridge.proofs.KeyLaws.{key-sym, full-left}
 use Rattle.rows.specs.declared.KeyPairs.{KeyPairs}
 use Rattle.rows.specs.declared.SoughtKey.{SoughtKey}
@@ -154,10 +154,10 @@ module _ (b : List ℕ) (k : ℕ) where
       pub parent-pairs-full : fullKey (parentKey K) row ≡ true → fullKey (parentPairs x) row ≡ true
       parent-pairs-full full = and-left (fullKey (parentPairs x) row) (not (nullAt row (x .first))) (first-parts full)
 
-      first-filled : fullKey (parentKey K) row ≡ true → nullAt row (x .first) ≡ false
+      pub first-filled : fullKey (parentKey K) row ≡ true → nullAt row (x .first) ≡ false
       first-filled full = fails (nullAt row (x .first)) (and-right (fullKey (parentPairs x) row) (not (nullAt row (x .first))) (first-parts full))
 
-      end-filled : fullKey (parentKey K) row ≡ true → nullAt row (suc (x .first)) ≡ false
+      pub end-filled : fullKey (parentKey K) row ≡ true → nullAt row (suc (x .first)) ≡ false
       end-filled full = fails (nullAt row (suc (x .first))) (and-right before-end (not (nullAt row (suc (x .first)))) (parent-parts full))
 
     -- a test of the key's window
@@ -182,6 +182,11 @@ module _ (b : List ℕ) (k : ℕ) where
           let within = window-test (inWindow child parent) in
           λ i. sameKey (h .columns .folds-are i) (h .columns .columns .child-is i) (h .columns .columns .parents .parent-is i) child parent && within i
 
+      pub maps-parts : mapsTo K child parent ≡ true → (sameKey (pairFolds x) (childPairs x) (parentPairs x) child parent ≡ true) × (inWindow child parent (windowOf x) ≡ true)
+      maps-parts e =
+          let same = sameKey (pairFolds x) (childPairs x) (parentPairs x) child parent in
+          (and-left same (inWindow child parent (windowOf x)) (maps-by ∙ e), and-right same (inWindow child parent (windowOf x)) (maps-by ∙ e))
+
       pub serves-by : servesBy x child parent ≡ serves K child parent
       unfolding servesBy serves
       serves-by = ap (λ (b : Bool). live parent && b) maps-by
@@ -192,11 +197,7 @@ module _ (b : List ℕ) (k : ℕ) where
     taken-days : (parent : Row) → fullKey (parentKey K) parent ≡ true → (row : Row) → meets (childDays parent x) row ≡ inWindow row parent (windowOf x)
     unfolding childDays meets dayWithin inWindow
     taken-days parent full row =
-        sym (rw (first-filled parent full, end-filled parent full) (ap (λ (b : Bool). b && isWithin (firstDay (windowOf x) parent) (endDay (windowOf x) parent) (valueAt row (x .day))) (and-all (not (nullAt row (x .day))))))
-      where
-        and-all : (b : Bool) → b && true ≡ b
-        and-all true = refl
-        and-all false = refl
+        sym (rw (first-filled parent full, end-filled parent full) (ap (λ (b : Bool). b && isWithin (firstDay (windowOf x) parent) (endDay (windowOf x) parent) (valueAt row (x .day))) (and-true (not (nullAt row (x .day))))))
 
     pub taken-on : (parent : Row) → fullKey (parentKey K) parent ≡ true → {key : SoughtKey} → SoughtOf (x .pairs .folded) (x .pairs .n) (x .pairs .cs) (x .pairs .ps) parent key → (row : Row) → isOn key (childDays parent x) row ≡ takes K parent row
     unfolding isOn withKey takes pairFolds childPairs parentPairs
@@ -240,6 +241,6 @@ module _ (b : List ℕ) (k : ℕ) where
             and-both (and-left (live row) same e) (ap not filled)
 
         full-too : (p f first end shares : Bool) → (p ≡ true → f ≡ true) → p && ((first && end) && shares) ≡ ((f && first) && end) && (p && shares)
-        full-too false f first end shares h = sym (and-none ((f && first) && end))
+        full-too false f first end shares h = sym (and-false ((f && first) && end))
         full-too true false first end shares h = absurd (false≢true (h refl))
         full-too true true first end shares h = refl

@@ -1,3 +1,4 @@
 pub mod DayLaws
 mod WindowLaws
 pub mod KeyDays
+pub mod LeftDays

@@ -1,7 +1,7 @@
 -- Images by the columns of a key with a window: what the days of rows must be, NULL in the keys, keys that are equal.
 -- Assumes nothing.
 use mathlib.Core.Path.{_≡_, refl, sym, ap, ap₂, _∙_}
-use mathlib.Core.Bool.{Bool, true, false, not, _&&_, _||_}
+use mathlib.Core.Bool.{Bool, true, false, cond, not, _&&_, _||_, or-false}
 use mathlib.Core.List.{List, [], _∷_, _++_}
 use Prim.Native.Nat.{ℕ, suc, _+_, _<_}
 use native.Mathlib.Numerals.{add-one}
@@ -10,6 +10,7 @@ use borrow.Author.Tests.{eqb-true, eqb-false}
 use lib.Dec.{eqb}
 use lib.IntN.{ℤ}
 use lib.ListN.{getD, take, set, length-set}
+use lib.Signed.{leZ}
 use lib.Seq.{getD-set-same, getD-set-other, take-suc-set}
 use Rattle.schema.specs.Bounds.{Columns}
 use Rattle.rules.specs.Lists.{any}
@@ -17,15 +18,12 @@ use Rattle.rules.specs.Rows.{Row, live, nullAt, valueAt}
 use Rattle.rules.specs.Keys.{sameKey, fullKey, firstDay, endDay, inWindow, sameWindow}
 use Rattle.bridge.proofs.Tests.{and-assoc}
 use Rattle.bridge.proofs.CountLaws.{any-cons, any-append}
+use Rattle.windows.specs.declared.Days.{Days}
 use Rattle.windows.specs.declared.Days.the-variants.{Within, Holding, Sharing}
 use Rattle.windows.specs.declared.WindowKey.{WindowKey}
-use Rattle.windows.specs.WindowKey.{WindowIn, windowOf, childDays, parentDays, clashDays, pairFolds, childPairs, parentPairs, childAll, parentAll, keyChanges, servesBy}
+use Rattle.windows.specs.WindowKey.{WindowIn, windowOf, childDays, parentDays, clashDays, pairFolds, childPairs, parentPairs, childAll, parentAll, keyChanges, servesBy, keepsPairs, keepsDays, leftFirst, leftEnd, leftDays}
 
 -- ---- a key with one column more
-
-or-none : (a : Bool) → a || false ≡ a
-or-none true = refl
-or-none false = refl
 
 neither : (a b : Bool) → not (a || b) ≡ not a && not b
 neither true b = refl
@@ -35,7 +33,7 @@ neither false b = refl
 pub full-last : (row : Row) (cs : List ℕ) (c : ℕ) → fullKey (cs ++ (c ∷ [])) row ≡ fullKey cs row && not (nullAt row c)
 unfolding fullKey any
 full-last row cs c =
-    let nulls : any (nullAt row) (cs ++ (c ∷ [])) ≡ any (nullAt row) cs || nullAt row c = any-append (nullAt row) cs (c ∷ []) ∙ ap (λ (b : Bool). any (nullAt row) cs || b) (any-cons (nullAt row) c [] ∙ or-none (nullAt row c)) in
+    let nulls : any (nullAt row) (cs ++ (c ∷ [])) ≡ any (nullAt row) cs || nullAt row c = any-append (nullAt row) cs (c ∷ []) ∙ ap (λ (b : Bool). any (nullAt row) cs || b) (any-cons (nullAt row) c [] ∙ or-false (nullAt row c)) in
     ap (λ (b : Bool). live row && b) (ap not nulls ∙ neither (any (nullAt row) cs) (nullAt row c))
     ∙ and-assoc (live row) (not (any (nullAt row) cs)) (not (nullAt row c))
 
@@ -130,3 +128,37 @@ module _ (x : WindowKey) where
     pub serves-window : live parent ≡ true → equal-pairs ≡ true → inWindow child parent (windowOf x) ≡ servesBy x child parent
     unfolding servesBy
     serves-window e f = sym (ap₂ (λ (a b : Bool). a && (b && inWindow child parent (windowOf x))) e f)
+
+  -- ---- a parent row that changes
+
+  module _ (old new : Row) where
+    pub pairs-gone : fullKey (parentAll x) new ≡ false → false ≡ keepsPairs x old new
+    unfolding keepsPairs
+    pairs-gone e = sym (ap (λ (b : Bool). b && same-pairs old new) e)
+
+    pub pairs-stay : fullKey (parentAll x) new ≡ true → same-pairs old new ≡ keepsPairs x old new
+    unfolding keepsPairs
+    pairs-stay e = sym (ap (λ (b : Bool). b && same-pairs old new) e)
+
+    abbrev window-in-new : Bool
+    window-in-new = leZ (firstDay (windowOf x) new) (firstDay (windowOf x) old) && leZ (endDay (windowOf x) old) (endDay (windowOf x) new)
+
+    pub days-gone : keepsPairs x old new ≡ false → false ≡ keepsDays x old new
+    unfolding keepsDays
+    days-gone e = sym (ap (λ (b : Bool). b && window-in-new) e)
+
+    pub days-stay : keepsPairs x old new ≡ true → window-in-new ≡ keepsDays x old new
+    unfolding keepsDays
+    days-stay e = sym (ap (λ (b : Bool). b && window-in-new) e)
+
+    abbrev narrowed : Days
+    narrowed =
+        Within (x .day) (leftFirst (firstDay (windowOf x) old) (firstDay (windowOf x) new) (endDay (windowOf x) new)) (leftEnd (endDay (windowOf x) old) (firstDay (windowOf x) new) (endDay (windowOf x) new))
+
+    pub left-all : keepsPairs x old new ≡ false → childDays old x ≡ leftDays old new x
+    unfolding leftDays
+    left-all e = sym (ap (λ (b : Bool). cond b narrowed (childDays old x)) e)
+
+    pub left-some : keepsPairs x old new ≡ true → narrowed ≡ leftDays old new x
+    unfolding leftDays
+    left-some e = sym (ap (λ (b : Bool). cond b narrowed (childDays old x)) e)

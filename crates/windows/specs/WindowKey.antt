@@ -1,15 +1,17 @@
 -- The columns of a foreign key with a window, and what its rows are searched by.
 -- Assumes nothing.
 use mathlib.Core.Path.{_≡_}
-use mathlib.Core.Bool.{Bool, not, _&&_}
+use mathlib.Core.Bool.{Bool, cond, not, _&&_}
 use mathlib.Core.List.{List, [], _∷_, _++_}
 use Prim.Native.Nat.{ℕ, suc, _<_}
+use lib.IntN.{ℤ}
 use lib.ListN.{length, take}
+use lib.Signed.{ltZ, leZ}
 use Rattle.schema.specs.Bounds.{Columns}
 use Rattle.schema.specs.Records.{Window, tableOf, keyOf}
 use Rattle.schema.specs.Fields.{schemaOf}
 use Rattle.rules.specs.Rows.{Row, live}
-use Rattle.rules.specs.Keys.{sameKey, fullKey, firstDay, endDay, inWindow, sameWindow}
+use Rattle.rules.specs.Keys.{sameKey, fullKey, firstDay, endDay, isWithin, inWindow, sameWindow}
 use Rattle.rules.specs.Rows.{valueAt}
 use Rattle.rows.specs.KeyColumns.{foldsIn, WholeKey, KeyColumns}
 use Rattle.windows.specs.declared.Days.{Days}
@@ -80,3 +82,34 @@ keyChanges x old new =
 -- the parent row serves the child row
 unfoldable pub servesBy : WindowKey → Row → Row → Bool
 servesBy x child parent = live parent && (sameKey (pairFolds x) (childPairs x) (parentPairs x) child parent && inWindow child parent (windowOf x))
+
+-- ---- days that a parent row leaves behind
+
+-- its pairs stay, and its window has no NULL then
+unfoldable pub keepsPairs : WindowKey → Row → Row → Bool
+keepsPairs x old new = fullKey (parentAll x) new && sameKey (pairFolds x) (parentPairs x) (parentPairs x) new old
+
+-- and so does every day of its window
+unfoldable pub keepsDays : WindowKey → Row → Row → Bool
+keepsDays x old new =
+    keepsPairs x old new
+    && (leZ (firstDay (windowOf x) new) (firstDay (windowOf x) old) && leZ (endDay (windowOf x) old) (endDay (windowOf x) new))
+
+-- the first day of a window, or the end of another one that holds it
+unfoldable pub leftFirst : ℤ → ℤ → ℤ → ℤ
+leftFirst day first end = cond (isWithin first end day) end day
+
+-- the end of a window, or the first day of another one that holds all days from there to that end
+unfoldable pub leftEnd : ℤ → ℤ → ℤ → ℤ
+leftEnd stop first end = cond (ltZ first stop && leZ stop end) first stop
+
+-- child rows that map to it before and may not map to it then: the days at either end of its window that it keeps are left out
+unfoldable pub leftDays : Row → Row → WindowKey → Days
+leftDays old new x =
+    cond
+    (keepsPairs x old new)
+    (Within
+    (x .day)
+    (leftFirst (firstDay (windowOf x) old) (firstDay (windowOf x) new) (endDay (windowOf x) new))
+    (leftEnd (endDay (windowOf x) old) (firstDay (windowOf x) new) (endDay (windowOf x) new)))
+    (childDays old x)

@@ -12,7 +12,7 @@ ghost use Rattle.rows.specs.Sought.{SoughtIn};
 ghost use Rattle.scans.specs.FirstFrom.{FirstRow};
 ghost use Rattle.windows.specs.Days.{dayWithin, windowHolds, windowShares, meets, DaysIn, isOn};
 ghost use lib.Signed.{leZ};
-ghost use Rattle.windows.specs.WindowKey.{WindowIn, WindowedKey, WindowColumns, windowOf, childDays, parentDays, clashDays, childAll, parentAll, keyChanges, servesBy};
+ghost use Rattle.windows.specs.WindowKey.{WindowIn, WindowedKey, WindowColumns, windowOf, childDays, parentDays, clashDays, childAll, parentAll, keyChanges, servesBy, keepsPairs, keepsDays, leftFirst, leftEnd, leftDays};
 use rows::KeyPairs;
 use rows::SoughtKey;
 use rows::TableRows;
@@ -330,4 +330,72 @@ pub fn serves(child: [i64; 9], parent: [i64; 9], key: WindowKey) -> bool
         return false;
     }
     in_window(child, parent, key)
+}
+
+// ---- days that a parent row leaves behind
+
+// Whether a parent row that turns from one image to another keeps its pairs, and has no NULL in its window then.
+fn keeps_pairs(old: [i64; 9], new: [i64; 9], key: WindowKey) -> bool
+    requires { ⌜ WindowIn key ⌝ }
+    ensures { λ x. ⌜ x ≡ keepsPairs key old new ⌝ }
+{
+    if !full_parent(new, key) {
+        return false;
+    }
+    let pairs = key.pairs;
+    let ps = pairs.ps;
+    rows::same_key(new, old, pairs.folded, pairs.n, ps, ps)
+}
+
+// Whether it keeps every day of its window, too.
+pub fn keeps_days(old: [i64; 9], new: [i64; 9], key: WindowKey) -> bool
+    requires { ⌜ WindowIn key ⌝ }
+    ensures { λ x. ⌜ x ≡ keepsDays key old new ⌝ }
+{
+    if !keeps_pairs(old, new, key) {
+        return false;
+    }
+    let c = key.first;
+    let first = image_value(old, c);
+    let end = image_value(old, c + 1);
+    let first2 = image_value(new, c);
+    let end2 = image_value(new, c + 1);
+    (first2 <= first) & (end <= end2)
+}
+
+// The first day of a window, or the end of another one that holds it.
+fn left_first(day: i64, first: i64, end: i64) -> i64
+    ensures { λ x. ⌜ x ≡ leftFirst day first end ⌝ }
+{
+    if is_within(first, end, day) {
+        return end;
+    }
+    day
+}
+
+// The end of a window, or the first day of another one that holds all days from there to that end.
+fn left_end(stop: i64, first: i64, end: i64) -> i64
+    ensures { λ x. ⌜ x ≡ leftEnd stop first end ⌝ }
+{
+    if (first < stop) & (stop <= end) {
+        return first;
+    }
+    stop
+}
+
+// What the days of child rows must be, that map to a parent row with the old image and may not map to it with the new one: where
+// it keeps its pairs, the days at either end of its window that it keeps are left out.
+pub fn left_days(old: [i64; 9], new: [i64; 9], key: WindowKey) -> Days
+    requires { ⌜ WindowIn key ⌝ }
+    ensures { λ x. ⌜ x ≡ leftDays old new key ⌝ }
+{
+    if !keeps_pairs(old, new, key) {
+        return child_days(old, key);
+    }
+    let c = key.first;
+    let first = image_value(new, c);
+    let end = image_value(new, c + 1);
+    let from = left_first(image_value(old, c), first, end);
+    let until = left_end(image_value(old, c + 1), first, end);
+    Days::Within(key.day, from, until)
 }

@@ -10,7 +10,7 @@ use Rattle.schema.specs.Records.{keyOf}
 use Rattle.schema.specs.Fields.{schemaOf}
 use Rattle.rules.specs.Keys.{fires}
 use Rattle.windows.proofs.KeyDays.{window-in, changes-fires}
-use Rattle.change_parts.proofs.WindowTurns.{window-actions, not-parent, old-full, turn-off, turn-none, turn-restrict}
+use Rattle.change_parts.proofs.WindowTurns.{window-action, not-parent, old-full, turn-off, turn-none, turn-restrict}
 use Rattle.change_parts.proofs.window_turn.Statement.{statement}
 use Rattle.change_parts.proofs.window_turn.Tie as tie
 
@@ -66,7 +66,7 @@ returns-4 c =
     ⊎-elim
     (λ e. turn-none _ _ (s .pre .0) _ (s .args .t) (s .args .old) (s .args .new) on e)
     (λ e. absurd (not-restrict (ap (tagOf the-type) (c .before .action-of .ensures ∙ e)) (c .match .keys2)))
-    (window-actions _ (s .pre .0 .accepted) _ (s .pre .1 .whole-key .key) (s .pre .1 .windowed) (s .args .new))
+    (window-action _ (s .pre .0 .accepted) _ (s .pre .1 .whole-key .key) (s .pre .1 .windowed) (s .args .new))
 
 pub window-turn-spec : {M : Type 1} → statement M
 window-turn-spec =

@@ -46,8 +46,8 @@ sought-key-requires c κs =
     let s = c .before .before .before .before in
     parent-pairs _ _ _ (s .pre .0 .1) _ (s .pre .1 .1)
 
-child-days-requires : tie.Need-child-days-requires Inv-loop μ-loop
-child-days-requires c κs =
+left-days-requires : tie.Need-left-days-requires Inv-loop μ-loop
+left-days-requires c κs =
     let s = c .before .before .before .before .before in
     window-in _ _ _ (s .pre .0 .1)
 
@@ -55,14 +55,14 @@ first-on-requires : tie.Need-first-on-requires Inv-loop μ-loop
 first-on-requires c κs =
     let s = c .before .before .before .before .before .before in
     let stands = s .pre .1 .0 .0 in
-    ((stands .0, omega arith), taken-ready _ _ _ (s .pre .0 .1) _ (c .before .sought-key .ensures) (c .child-days .ensures) (s .args .children) (stands .1))
+    ((stands .0, omega arith), taken-ready _ _ _ (s .pre .0 .1) _ _ (c .before .sought-key .ensures) (c .left-days .ensures) (s .args .children) (stands .1))
 
 loop-holds : tie.Need-loop-holds Inv-loop μ-loop
 loop-holds c =
     let s = c .before .before .before .before .before .before .before in
     let a = s .args in
     let sought = c .before .before .sought-key .result in
-    let days = c .before .child-days .result in
+    let days = c .before .left-days .result in
     let f = c .first-on .ensures in
     let P = Left (a .schema .now) (a .area .now) (a .k) (a .r) (a .clear) (a .y) sought days in
     let passed = passed-over (isOn sought days) (a .clear) (keyOf (schemaOf (a .schema .now)) (a .k)) (a .y) (othersOf (a .schema .now) (a .area .now) (a .k) (a .r)) in
@@ -94,7 +94,7 @@ is-left-requires c κs =
     let s = days .before .before .before .before .before .before in
     let a = s .args in
     let columns = s .pre .0 .1 in
-    let found = found-taken _ _ _ columns (a .x) (days .before .sought-key .ensures) (days .child-days .ensures) (s .pre .1 .1) (getD (rowsIn (a .area .now) (a .children)) (loop .j) []) (loop .inv .1 .1 taken) in
+    let found = found-taken _ _ _ columns (a .x) (a .y) (days .before .sought-key .ensures) (days .left-days .ensures) (s .pre .1 .1) (getD (rowsIn (a .area .now) (a .children)) (loop .j) []) (loop .inv .1 .1 taken) in
     (s .pre .0, (s .pre .1 .0 .1, found-full (a .area .now) (a .children) (loop .j) taken (c .image-at .ensures) (keyOf (schemaOf (a .schema .now)) (a .k)) (a .x) found (same-count _ _ _ columns)))
 
 add-m : tie.Need-add-m Inv-loop μ-loop
@@ -115,7 +115,7 @@ first-on-requires-2 c κs =
     let days = in-loop .before .before .before in
     let s = days .before .before .before .before .before .before in
     let stands = s .pre .1 .0 .0 in
-    ((stands .0, omega (arith, in-loop .loop-test .taken)), taken-ready _ _ _ (s .pre .0 .1) _ (days .before .sought-key .ensures) (days .child-days .ensures) (s .args .children) (stands .1))
+    ((stands .0, omega (arith, in-loop .loop-test .taken)), taken-ready _ _ _ (s .pre .0 .1) _ _ (days .before .sought-key .ensures) (days .left-days .ensures) (s .args .children) (stands .1))
 
 loop-less : tie.Need-loop-less Inv-loop μ-loop
 loop-less c = omega (arith, c .first-on2 .ensures .low, c .before .before .before .before .loop-test .taken)
@@ -130,7 +130,7 @@ loop-again c =
     let a = days .before .before .before .before .before .before .args in
     let K = keyOf (schemaOf (a .schema .now)) (a .k) in
     let others = othersOf (a .schema .now) (a .area .now) (a .k) (a .r) in
-    let on = isOn (days .before .sought-key .result) (days .child-days .result) in
+    let on = isOn (days .before .sought-key .result) (days .left-days .result) in
     let f = c .first-on2 .ensures in
     let judged = found-left (a .area .now) (a .children) (loop .j) taken (image .image-at .ensures) on (loop .inv .1 .1 taken) (a .clear) K (a .y) others (c .before .before .is-left .ensures) in
     let more = count-turn (leftRow on (a .clear) K (a .y) others) (a .area .now) (a .children) (passed-over on (a .clear) K (a .y) others) taken judged f in
@@ -147,10 +147,10 @@ returns c =
     let a = s .args in
     let K = keyOf (schemaOf (a .schema .now)) (a .k) in
     let others = othersOf (a .schema .now) (a .area .now) (a .k) (a .r) in
-    let P = leftRow (isOn (days .before .sought-key .result) (days .child-days .result)) (a .clear) K (a .y) others in
+    let P = leftRow (isOn (days .before .sought-key .result) (days .left-days .result)) (a .clear) K (a .y) others in
     let none = count-end P (a .area .now) (a .children) {j = loop .j} (omega (arith, c .loop-test .left)) in
     let all : loop .m ≡ count P (rowsIn (a .area .now) (a .children)) = omega (arith, loop .inv .1 .0, none) in
-    let found = count-found _ _ _ (s .pre .0 .1) (a .x) (days .before .sought-key .ensures) (days .child-days .ensures) (s .pre .1 .1) (a .clear) (a .y) others (rowsIn (a .area .now) (a .children)) in
+    let found = count-found _ _ _ (s .pre .0 .1) (a .x) (a .y) (days .before .sought-key .ensures) (days .left-days .ensures) (s .pre .1 .1) (a .clear) others (rowsIn (a .area .now) (a .children)) in
     (all ∙ found, omega (arith, loop .inv .0 .1, loop .inv .0 .0))
 
 pub count-left-spec : {M : Type 1} → statement M
@@ -160,7 +160,7 @@ count-left-spec =
     Inv-loop
     μ-loop
     sought-key-requires
-    child-days-requires
+    left-days-requires
     first-on-requires
     loop-holds
     mul-image-at
