@@ -22,8 +22,8 @@ use Rattle.rules.specs.Keys.{sameCell, sameKey, fullKey, halfKey, mapsTo
 use Rattle.rules.specs.Book.{Work}
 use Rattle.rules.specs.Change.{notNullBroken, admits}
 use Rattle.rules.proofs.Inputs.{halfDrawn, notDrawn, insert, update, delete, begin, commit, deleteWhere, updateWhere}
-use Rattle.rules.proofs.Computed.{answers, answersWith}
-use Rattle.rules.proofs.PaperCases.{Case, none, one, refused}
+use Rattle.rules.proofs.Computed.{Turns, onBook, answers, answersWith}
+use Rattle.rules.proofs.PaperCases.{Case, Hold, none, one, refused}
 
 -- ---- the definitions on rows
 
@@ -133,18 +133,24 @@ brokenKeys =
     }
     ∷ []
 
-pub broken-keys : map (λ (c : Case). answers (c .schema) (c .sent)) brokenKeys ≡ map (λ (c : Case). c .answered) brokenKeys
-unfolding answers brokenKeys
+pub broken-keys : Hold onBook brokenKeys
+unfolding onBook answers brokenKeys
 broken-keys = refl
 
 -- ---- in areas that no calls led to
 
 -- a reading is there (word 343 is the state of row 0): no orphan, it can be deleted and not updated
-pub child-deleted : answersWith (halfDrawn 4 8) 343 (pos 256) (update 2 0 0 (pos 5 ∷ []) ∷ delete 2 0 ∷ delete 2 0 ∷ []) ≡ refused 23 ∷ one ∷ refused 11 ∷ []
-unfolding answersWith halfDrawn update delete
+abbrev pub ChildDeleted : Turns → Type 0
+ChildDeleted turns = answersWith turns (halfDrawn 4 8) 343 (pos 256) (update 2 0 0 (pos 5 ∷ []) ∷ delete 2 0 ∷ delete 2 0 ∷ []) ≡ refused 23 ∷ one ∷ refused 11 ∷ []
+
+pub child-deleted : ChildDeleted onBook
+unfolding onBook answersWith halfDrawn update delete
 child-deleted = refl
 
 -- the broken key's kept number is 1: judged like any other, by 20 and by 21
-pub kept-judged : answersWith (halfDrawn 4 8) 5 (pos 1) (insert 0 0 0 (pos 5 ∷ []) ∷ begin ∷ insert 0 0 0 (pos 5 ∷ []) ∷ commit ∷ []) ≡ refused 20 ∷ none ∷ one ∷ refused 21 ∷ []
-unfolding answersWith halfDrawn insert begin commit
+abbrev pub KeptJudged : Turns → Type 0
+KeptJudged turns = answersWith turns (halfDrawn 4 8) 5 (pos 1) (insert 0 0 0 (pos 5 ∷ []) ∷ begin ∷ insert 0 0 0 (pos 5 ∷ []) ∷ commit ∷ []) ≡ refused 20 ∷ none ∷ one ∷ refused 21 ∷ []
+
+pub kept-judged : KeptJudged onBook
+unfolding onBook answersWith halfDrawn insert begin commit
 kept-judged = refl

@@ -8,8 +8,8 @@ use lib.IntN.{ℤ, pos, negsuc}
 use lib.ListN.{take, replicate}
 use Rattle.rules.specs.declared.Orphan.{Orphan}
 use Rattle.rules.proofs.Inputs.{schemaS, selfReferring, twoKeys, crossedKeys, pairKey, insert, update, delete, begin, savepoint, release, rollbackTo, rollback, commit, deleteWhere, updateWhere, selves, family, readings}
-use Rattle.rules.proofs.Computed.{answers, sameArea, callsLeft, listedAfter}
-use Rattle.rules.proofs.PaperCases.{Case, none, one, refused}
+use Rattle.rules.proofs.Computed.{Turns, onBook, answers, sameArea, callsLeft, listedAfter}
+use Rattle.rules.proofs.PaperCases.{Case, Hold, none, one, refused}
 
 unfoldable pub examples : List Case
 unfolding schemaS selfReferring twoKeys pairKey family selves insert update delete begin savepoint release rollbackTo rollback commit
@@ -47,8 +47,8 @@ examples =
     ∷ record { schema = schemaS; sent = replicate 10 savepoint; answered = replicate 9 none ++ (refused 13 ∷ []) }
     ∷ []
 
-pub examples-hold : map (λ (c : Case). answers (c .schema) (c .sent)) examples ≡ map (λ (c : Case). c .answered) examples
-unfolding answers examples
+pub examples-hold : Hold onBook examples
+unfolding onBook answers examples
 examples-hold = refl
 
 -- a schema, calls, and calls that end in the same area
@@ -92,12 +92,18 @@ undoneExamples =
     ∷ []
 
 -- what is left after striking out is those calls, and they end in the same area
-pub undone-struck : map (λ (u : Undone). callsLeft (u .schema) (u .sent)) undoneExamples ≡ map (λ (u : Undone). u .left) undoneExamples
-unfolding callsLeft undoneExamples
+abbrev pub UndoneStruck : Turns → Type 0
+UndoneStruck turns = map (λ (u : Undone). callsLeft turns (u .schema) (u .sent)) undoneExamples ≡ map (λ (u : Undone). u .left) undoneExamples
+
+pub undone-struck : UndoneStruck onBook
+unfolding onBook callsLeft undoneExamples
 undone-struck = refl
 
-pub undone-same : map (λ (u : Undone). sameArea (u .schema) (u .sent) (u .left)) undoneExamples ≡ true ∷ true ∷ true ∷ []
-unfolding sameArea undoneExamples
+abbrev pub UndoneSame : Turns → Type 0
+UndoneSame turns = map (λ (u : Undone). sameArea turns (u .schema) (u .sent) (u .left)) undoneExamples ≡ true ∷ true ∷ true ∷ []
+
+pub undone-same : UndoneSame onBook
+unfolding onBook sameArea undoneExamples
 undone-same = refl
 
 -- ---- the orphan list: of three child rows, keys 0 and 1 have two orphans each
@@ -109,17 +115,26 @@ abbrev at : ℕ → ℕ → Orphan
 at k r = record { key = k; row = r }
 
 -- by foreign key number, then by rising child row; a record past them keeps what it held
-pub listed-holds : listedAfter crossedKeys orphaned (at 7 7 ∷ at 7 7 ∷ at 7 7 ∷ at 7 7 ∷ at 8 9 ∷ [])
-    ≡ (record { code = pos 0; count = 4 }, at 0 0 ∷ at 0 2 ∷ at 1 1 ∷ at 1 2 ∷ at 8 9 ∷ [])
-unfolding listedAfter crossedKeys orphaned
+abbrev pub ListedHolds : Turns → Type 0
+ListedHolds turns =
+    listedAfter turns crossedKeys orphaned (at 7 7 ∷ at 7 7 ∷ at 7 7 ∷ at 7 7 ∷ at 8 9 ∷ []) ≡ (record { code = pos 0; count = 4 }, at 0 0 ∷ at 0 2 ∷ at 1 1 ∷ at 1 2 ∷ at 8 9 ∷ [])
+
+pub listed-holds : ListedHolds onBook
+unfolding onBook listedAfter crossedKeys orphaned
 listed-holds = refl
 
 -- just room
-pub listed-full : listedAfter crossedKeys orphaned (at 7 7 ∷ at 7 7 ∷ at 7 7 ∷ at 7 7 ∷ []) ≡ (record { code = pos 0; count = 4 }, at 0 0 ∷ at 0 2 ∷ at 1 1 ∷ at 1 2 ∷ [])
-unfolding listedAfter crossedKeys orphaned
+abbrev pub ListedFull : Turns → Type 0
+ListedFull turns = listedAfter turns crossedKeys orphaned (at 7 7 ∷ at 7 7 ∷ at 7 7 ∷ at 7 7 ∷ []) ≡ (record { code = pos 0; count = 4 }, at 0 0 ∷ at 0 2 ∷ at 1 1 ∷ at 1 2 ∷ [])
+
+pub listed-full : ListedFull onBook
+unfolding onBook listedAfter crossedKeys orphaned
 listed-full = refl
 
 -- no room: nothing is written
-pub listed-refused : listedAfter crossedKeys orphaned (at 7 7 ∷ at 7 7 ∷ at 7 7 ∷ []) ≡ (record { code = pos 22; count = 0 }, at 7 7 ∷ at 7 7 ∷ at 7 7 ∷ [])
-unfolding listedAfter crossedKeys orphaned
+abbrev pub ListedRefused : Turns → Type 0
+ListedRefused turns = listedAfter turns crossedKeys orphaned (at 7 7 ∷ at 7 7 ∷ at 7 7 ∷ []) ≡ (record { code = pos 22; count = 0 }, at 7 7 ∷ at 7 7 ∷ at 7 7 ∷ [])
+
+pub listed-refused : ListedRefused onBook
+unfolding onBook listedAfter crossedKeys orphaned
 listed-refused = refl

@@ -15,8 +15,8 @@ use Rattle.rules.specs.Values.{natOf, sameWord, raised, eachByte, folded
 use Rattle.rules.specs.Rows.{Row, liveState, live, nullAt, valueAt}
 use Rattle.rules.specs.Keys.{sameCell, sameKey, fullKey, mapsTo, takes, sameParent, sameParentKey, fires}
 use Rattle.rules.proofs.Inputs.{named, namedLegs, namedTwice, insert, update, delete, begin, commit, deleteWhere, updateWhere}
-use Rattle.rules.proofs.Computed.{answers}
-use Rattle.rules.proofs.PaperCases.{Case, none, one, refused}
+use Rattle.rules.proofs.Computed.{onBook, answers}
+use Rattle.rules.proofs.PaperCases.{Case, Hold, none, one, refused}
 
 -- ---- values
 
@@ -148,6 +148,6 @@ foldedColumns =
     }
     ∷ []
 
-pub folded-columns : map (λ (c : Case). answers (c .schema) (c .sent)) foldedColumns ≡ map (λ (c : Case). c .answered) foldedColumns
-unfolding answers foldedColumns
+pub folded-columns : Hold onBook foldedColumns
+unfolding onBook answers foldedColumns
 folded-columns = refl

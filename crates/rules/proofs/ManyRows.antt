@@ -5,8 +5,8 @@ use mathlib.Core.List.{List, [], _∷_, _++_, map}
 use lib.IntN.{ℤ, pos}
 use lib.ListN.{set, take, replicate}
 use Rattle.rules.proofs.Inputs.{schemaS, selfReferring, insert, delete, deleteWhere, updateWhere, chain, readings}
-use Rattle.rules.proofs.Computed.{answers, answersWith}
-use Rattle.rules.proofs.PaperCases.{Case, changed, refused}
+use Rattle.rules.proofs.Computed.{Turns, onBook, answers, answersWith}
+use Rattle.rules.proofs.PaperCases.{Case, Hold, changed, refused}
 
 unfoldable pub manyRows : List Case
 unfolding schemaS selfReferring readings chain insert delete deleteWhere updateWhere
@@ -89,11 +89,14 @@ manyRows =
     }
     ∷ []
 
-pub many-rows : map (λ (c : Case). answers (c .schema) (c .sent)) manyRows ≡ map (λ (c : Case). c .answered) manyRows
-unfolding answers manyRows
+pub many-rows : Hold onBook manyRows
+unfolding onBook answers manyRows
 many-rows = refl
 
 -- "0 are changed, and 20 is judged as for any statement": no row is found, and word 4 keeps an orphan that no row accounts for
-pub none-found-judged : map (λ (v : ℤ). answersWith schemaS 4 v (deleteWhere 0 0 0 (pos 1) ∷ [])) (pos 0 ∷ pos 1 ∷ []) ≡ (changed 0 ∷ []) ∷ (refused 20 ∷ []) ∷ []
-unfolding answersWith schemaS deleteWhere
+abbrev pub NoneFoundJudged : Turns → Type 0
+NoneFoundJudged turns = map (λ (v : ℤ). answersWith turns schemaS 4 v (deleteWhere 0 0 0 (pos 1) ∷ [])) (pos 0 ∷ pos 1 ∷ []) ≡ (changed 0 ∷ []) ∷ (refused 20 ∷ []) ∷ []
+
+pub none-found-judged : NoneFoundJudged onBook
+unfolding onBook answersWith schemaS deleteWhere
 none-found-judged = refl

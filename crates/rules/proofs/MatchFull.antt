@@ -18,8 +18,8 @@ use Rattle.rules.specs.Values.{natOf, sameWord, folded, sameValue}
 use Rattle.rules.specs.Rows.{Row, liveState, live, nullAt, valueAt}
 use Rattle.rules.specs.Keys.{sameCell, sameKey, fullKey, halfKey, mapsTo, halfDue, due, serves, takes}
 use Rattle.rules.proofs.Inputs.{pairKey, eitherMatch, insert, update, delete, begin, rollbackTo, savepoint, commit, deleteWhere}
-use Rattle.rules.proofs.Computed.{answers, listedAfter}
-use Rattle.rules.proofs.PaperCases.{Case, none, one, changed, refused}
+use Rattle.rules.proofs.Computed.{Turns, onBook, answers, listedAfter}
+use Rattle.rules.proofs.PaperCases.{Case, Hold, none, one, changed, refused}
 
 -- one row changed, one orphan more or less
 abbrev orphaned : ℕ × ℕ × ℤ
@@ -121,8 +121,8 @@ matchFull =
     }
     ∷ []
 
-pub match-full : map (λ (c : Case). answers (c .schema) (c .sent)) matchFull ≡ map (λ (c : Case). c .answered) matchFull
-unfolding answers matchFull
+pub match-full : Hold onBook matchFull
+unfolding onBook answers matchFull
 match-full = refl
 
 -- ---- the orphan list "uses the record's match": of a full row, a half-filled one and an empty one, key 0 lists one and key 1 two
@@ -133,6 +133,9 @@ unserved = begin ∷ insert 1 1 0 (pos 7 ∷ pos 8 ∷ []) ∷ insert 1 2 1 (pos
 abbrev at : ℕ → ℕ → Orphan
 at k r = record { key = k; row = r }
 
-pub listed-by-match : listedAfter eitherMatch unserved (replicate 4 (at 9 9)) ≡ (record { code = pos 0; count = 3 }, at 0 1 ∷ at 1 1 ∷ at 1 2 ∷ at 9 9 ∷ [])
-unfolding listedAfter eitherMatch unserved
+abbrev pub ListedByMatch : Turns → Type 0
+ListedByMatch turns = listedAfter turns eitherMatch unserved (replicate 4 (at 9 9)) ≡ (record { code = pos 0; count = 3 }, at 0 1 ∷ at 1 1 ∷ at 1 2 ∷ at 9 9 ∷ [])
+
+pub listed-by-match : ListedByMatch onBook
+unfolding onBook listedAfter eitherMatch unserved
 listed-by-match = refl

@@ -12,8 +12,8 @@ use Rattle.rules.specs.Rows.{Row, liveState, live, nullAt, valueAt}
 use Rattle.rules.specs.Found.{cellIs}
 use Rattle.rules.specs.KeyValues.{keyValues, holdsKey, hasKey}
 use Rattle.rules.proofs.Inputs.{selfReferring, pairKey, insert, update, delete, deleteWhere}
-use Rattle.rules.proofs.Computed.{answers}
-use Rattle.rules.proofs.PaperCases.{Case, changed, refused}
+use Rattle.rules.proofs.Computed.{onBook, answers}
+use Rattle.rules.proofs.PaperCases.{Case, Hold, changed, refused}
 
 -- rows of two columns, by their states and values
 abbrev rows : List Row
@@ -83,6 +83,6 @@ oldKeys =
     }
     ∷ []
 
-pub old-keys : map (λ (c : Case). answers (c .schema) (c .sent)) oldKeys ≡ map (λ (c : Case). c .answered) oldKeys
-unfolding answers oldKeys
+pub old-keys : Hold onBook oldKeys
+unfolding onBook answers oldKeys
 old-keys = refl

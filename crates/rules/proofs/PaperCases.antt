@@ -6,13 +6,16 @@ use Prim.Native.Nat.{ℕ}
 use lib.IntN.{ℤ, pos, negsuc}
 use lib.ListN.{replicate}
 use Rattle.rules.proofs.Inputs.{schemaS, selfReferring, eightCalls, chain, selves, savepoint, rollbackTo, delete}
-use Rattle.rules.proofs.Computed.{Shown, answers}
+use Rattle.rules.proofs.Computed.{Shown, Turns, onBook, answers}
 
 -- schema bytes, calls from a fresh area, and what they answer
 pub record Case : Type 0 where
   pub schema : List ℕ
   pub sent : List (List ℤ)
   pub answered : Shown
+
+abbrev pub Hold : Turns → List Case → Type 0
+Hold turns cases = map (λ (c : Case). answers turns (c .schema) (c .sent)) cases ≡ map (λ (c : Case). c .answered) cases
 
 -- so many rows changed, no orphan more or less
 abbrev pub changed : ℕ → ℕ × ℕ × ℤ
@@ -50,6 +53,6 @@ paperCases =
     ∷ record { schema = selfReferring 1 4 8; sent = selves 0 1 ++ (delete 0 0 ∷ []); answered = one ∷ one ∷ [] }
     ∷ []
 
-pub paper-cases : map (λ (c : Case). answers (c .schema) (c .sent)) paperCases ≡ map (λ (c : Case). c .answered) paperCases
-unfolding answers paperCases
+pub paper-cases : Hold onBook paperCases
+unfolding onBook answers paperCases
 paper-cases = refl

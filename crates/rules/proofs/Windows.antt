@@ -6,8 +6,8 @@ use mathlib.Core.List.{List, [], _∷_, map}
 use lib.IntN.{ℤ, pos, negsuc}
 use Rattle.rules.specs.Keys.{isWithin, sharesDay}
 use Rattle.rules.proofs.Inputs.{calibrations, endless, insert, update, delete, begin, commit, updateWhere}
-use Rattle.rules.proofs.Computed.{answers, answersAfter}
-use Rattle.rules.proofs.PaperCases.{Case, none, one, refused}
+use Rattle.rules.proofs.Computed.{Turns, onBook, answers, answersAfter}
+use Rattle.rules.proofs.PaperCases.{Case, Hold, none, one, refused}
 
 -- ---- days
 
@@ -153,16 +153,17 @@ windowed =
     }
     ∷ []
 
-pub windowed-keys : map (λ (c : Case). answers (c .schema) (c .sent)) windowed ≡ map (λ (c : Case). c .answered) windowed
-unfolding answers windowed
+pub windowed-keys : Hold onBook windowed
+unfolding onBook answers windowed
 windowed-keys = refl
 
 -- ---- an area that no calls led to
 
 -- the end of the first calibration set to 16, two of them share day 15: its reading has two parents, and either may go, but not both
-pub two-parents :
-    answersAfter (calibrations 0 0 0 0) (insert 0 0 0 (calibrated (pos 10) (pos 12)) ∷ insert 0 1 0 (calibrated (pos 15) (pos 20)) ∷ insert 1 0 0 (taken (pos 15)) ∷ []) 336 (pos 16)
-    (delete 0 1 ∷ delete 0 0 ∷ [])
-    ≡ one ∷ refused 20 ∷ []
-unfolding answersAfter calibrations insert delete
+abbrev pub TwoParents : Turns → Type 0
+TwoParents turns =
+    answersAfter turns (calibrations 0 0 0 0) (insert 0 0 0 (calibrated (pos 10) (pos 12)) ∷ insert 0 1 0 (calibrated (pos 15) (pos 20)) ∷ insert 1 0 0 (taken (pos 15)) ∷ []) 336 (pos 16) (delete 0 1 ∷ delete 0 0 ∷ []) ≡ one ∷ refused 20 ∷ []
+
+pub two-parents : TwoParents onBook
+unfolding onBook answersAfter calibrations insert delete
 two-parents = refl
