@@ -27,13 +27,33 @@ pub struct Sort {
     pub shown_by_list: fn(&Area) -> Vec<&'static str>,
 }
 
-/// A schema, an area of it, where that comes from, and how a well-formed call is made that suits an
-/// area.
+/// Makes a well-formed call that suits an area.
+type MakeCall = fn(&mut Random, &Ground, &[i64]) -> Vec<i64>;
+
+/// A schema, an area of it, where that comes from, and how a call is made.
 pub struct Start {
-    pub ground: Ground,
-    pub area: Vec<i64>,
-    pub origin: Origin,
-    pub call: fn(&mut Random, &Ground, &[i64]) -> Vec<i64>,
+    ground: Ground,
+    area: Vec<i64>,
+    origin: Origin,
+    call: MakeCall,
+}
+
+impl Start {
+    pub fn reached(ground: Ground, area: Vec<i64>, call: MakeCall) -> Start {
+        Start {
+            ground,
+            area,
+            origin: Origin::Reached,
+            call,
+        }
+    }
+
+    pub fn filled(ground: Ground, area: Vec<i64>, call: MakeCall) -> Start {
+        Start {
+            origin: Origin::Filled,
+            ..Start::reached(ground, area, call)
+        }
+    }
 }
 
 /// A call that was compared, its code, and the area before it and after it.
