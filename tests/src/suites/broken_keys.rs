@@ -21,8 +21,7 @@ pub fn run(r: &mut Random, report: &mut Report) {
     every_parent(report);
     let watched = watched::run(r, report, (NAME, &SORT), CODES);
     watched::report_lists(report, NAME, &watched, CODES_OF_LISTS);
-    let situations = SITUATIONS.into_iter().flatten();
-    watched::report_situations(report, NAME, situations, &watched);
+    watched::report_situations(report, NAME, SITUATIONS.all(), &watched);
     let title = "lists on broken keys";
     watched::report_situations(report, title, OF_LISTS.iter(), &watched);
 }

@@ -22,8 +22,7 @@ pub fn run(r: &mut Random, report: &mut Report) {
     every_byte(report);
     let watched = watched::run(r, report, (NAME, &SORT), CODES);
     watched::report_lists(report, NAME, &watched, CODES_OF_LISTS);
-    let situations = SITUATIONS.into_iter().flatten();
-    watched::report_situations(report, NAME, situations, &watched);
+    watched::report_situations(report, NAME, SITUATIONS.all(), &watched);
     let title = "lists on folded columns";
     watched::report_situations(report, title, folded_lists::SITUATIONS.iter(), &watched);
 }

@@ -1,7 +1,7 @@
 //! Calls and orphan lists on schemas with broken foreign keys.
 
-use super::broken_keys_seen::Seen;
-use super::broken_keys_situations as situations;
+use super::broken_keys_situations::{self as situations, OF_LISTS};
+use super::seen::Seen;
 use super::watched::{Sort, Start};
 use crate::inputs::broken_key_calls::{any, on_chain};
 use crate::inputs::calls::new_row;
@@ -12,8 +12,8 @@ use crate::random::Random;
 pub const SORT: Sort = Sort {
     start,
     damaged,
-    shown: |rules, made| situations::shown(&Seen::new(rules, made)).collect(),
-    shown_by_list: |area| situations::shown_by_list(area).collect(),
+    shown: |rules, made| situations::shown(&Seen::new(rules, made)),
+    of_lists: OF_LISTS,
 };
 
 fn start(r: &mut Random) -> Start {

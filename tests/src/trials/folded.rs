@@ -1,7 +1,8 @@
 //! Calls and orphan lists on schemas with folded columns.
 
 use super::folded_lists;
-use super::folded_seen::Seen;
+use super::folded_situations;
+use super::seen::Seen;
 use super::watched::{Sort, Start};
 use crate::inputs::{damages, folded, folded_calls, populated, spellings};
 use crate::random::Random;
@@ -9,8 +10,8 @@ use crate::random::Random;
 pub const SORT: Sort = Sort {
     start,
     damaged: damages::mostly_rows,
-    shown: |rules, made| Seen::new(rules, made).shown().collect(),
-    shown_by_list: folded_lists::shown,
+    shown: |rules, made| folded_situations::shown(&Seen::new(rules, made)),
+    of_lists: folded_lists::SITUATIONS,
 };
 
 fn start(r: &mut Random) -> Start {

@@ -12,7 +12,7 @@ pub const SORT: Sort = Sort {
     start,
     damaged: damages::mostly_rows,
     shown,
-    shown_by_list: |_| Vec::new(),
+    of_lists: &[],
 };
 
 fn start(r: &mut Random) -> Start {

@@ -23,9 +23,12 @@ pub struct Sort {
     pub start: fn(&mut Random) -> Start,
     pub damaged: fn(&mut Random, &Ground, &[i64]) -> Vec<i64>,
     pub shown: fn(&Rules, &Made) -> Vec<&'static str>,
-    /// What an accepted list of this area shows.
-    pub shown_by_list: fn(&Area) -> Vec<&'static str>,
+    /// What accepted orphan lists can show.
+    pub of_lists: &'static [OfList],
 }
+
+/// A name, the areas on which it is to be seen, and whether an orphan list of an area shows it.
+pub type OfList = (&'static str, &'static [Origin], fn(&Area) -> bool);
 
 /// Makes a well-formed call that suits an area.
 type MakeCall = fn(&mut Random, &Ground, &[i64]) -> Vec<i64>;
@@ -136,8 +139,9 @@ impl Watched {
         if r.once_in(4) {
             let compared = self.lists.compare(engine, r, &ground.bytes, area)?;
             if compared.code == 0 {
-                let shown = (self.sort.shown_by_list)(&ground.area(area));
-                self.count(origin, shown);
+                let area = ground.area(area);
+                let shown = self.sort.of_lists.iter().filter(|list| (list.2)(&area));
+                self.count(origin, shown.map(|list| list.0).collect());
             }
         }
         Ok(())

@@ -1,9 +1,9 @@
 //! Calls and orphan lists on schemas with windowed keys.
 
+use super::seen::Seen;
 use super::watched::{Sort, Start};
 use super::window_lists;
-use super::window_seen::Seen;
-use super::window_situations;
+use super::window_situations::SITUATIONS;
 use crate::inputs::grounds::Ground;
 use crate::inputs::{damages, populated, window_calls, windows};
 use crate::random::Random;
@@ -11,8 +11,8 @@ use crate::random::Random;
 pub const SORT: Sort = Sort {
     start,
     damaged,
-    shown: |rules, made| window_situations::shown(&Seen::new(rules, made)),
-    shown_by_list: window_lists::shown,
+    shown: |rules, made| Seen::new(rules, made).shown(SITUATIONS.into_iter().flatten()),
+    of_lists: window_lists::SITUATIONS,
 };
 
 fn start(r: &mut Random) -> Start {
