@@ -58,11 +58,7 @@ fn table(r: &mut Random, values: &[i64]) -> Table {
     let mut table = build::table(r.pick(&[3, 4, 6]), 4, &unique[..used]);
     table.not_null = r.pick(&[0, 0, 1, 2, 4, 8]);
     table.default_null = r.pick(&[0, 2, 6]);
-    for column in 0..4 {
-        if table.default_null >> column & 1 == 0 {
-            table.defaults[column] = r.pick(values);
-        }
-    }
+    table.defaults = grounds::defaults(r, values, 4, table.default_null);
     table
 }
 

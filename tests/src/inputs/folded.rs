@@ -128,11 +128,7 @@ fn table(r: &mut Random, values: &[i64], columns: usize, unique: &[u8]) -> Table
     table.folded = r.byte() & low_bits(columns);
     let some = 1 << r.between(0, columns - 1);
     table.default_null = r.pick(&[0, 0, some]);
-    for column in 0..columns {
-        if table.default_null >> column & 1 == 0 {
-            table.defaults[column] = r.pick(values);
-        }
-    }
+    table.defaults = grounds::defaults(r, values, columns, table.default_null);
     if r.once_in(5) {
         table.not_null = 1 << r.between(0, columns - 1);
     }

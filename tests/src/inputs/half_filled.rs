@@ -1,7 +1,7 @@
 //! Schemas and areas in which many child keys are half-filled: some but not all columns are NULL.
 
 use super::calls::new_row;
-use super::grounds::Ground;
+use super::grounds::{defaults, Ground};
 use crate::model::area::Area;
 use crate::model::schema::{self, Row};
 use crate::random::Random;
@@ -39,11 +39,7 @@ fn table(r: &mut Random, values: &[i64], widths: [usize; 2], columns: usize) -> 
     let rows = r.pick(&[3, 4, 6]);
     let mut table = build::table(rows, columns as u8, &widths.map(low_bits));
     table.default_null = r.byte() & low_bits(columns) & r.pick(&[0, 255, 255]);
-    for column in 0..columns {
-        if table.default_null >> column & 1 == 0 {
-            table.defaults[column] = r.pick(values);
-        }
-    }
+    table.defaults = defaults(r, values, columns, table.default_null);
     if r.once_in(4) {
         table.not_null = 1 << r.between(0, columns - 1);
     }

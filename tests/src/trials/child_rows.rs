@@ -1,7 +1,7 @@
 //! Changes of parent rows: an engine against the model, with what their actions do to child rows
 //! counted.
 
-use super::compared;
+use super::compared::{self, Input};
 use super::origins::Origin;
 use super::walks::Walks;
 use crate::counts::Counts;
@@ -48,7 +48,7 @@ impl ChildRows {
     fn call(
         &mut self,
         engine: &dyn Engine,
-        input: (&[u8], &[i64], &[i64]),
+        input: Input,
         origin: Origin,
     ) -> Result<Vec<i64>, String> {
         let (answer, after) = compared::call(engine, &self.model, input)?;
