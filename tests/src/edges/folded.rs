@@ -45,25 +45,40 @@ fn sensors() -> Table {
 }
 
 /// Sensors in table 0. Readings in table 1 refer to them by c1, which is not folded. J = 16.
-fn readings(keys: Vec<Key>) -> Records {
-    Records::new(16, vec![sensors(), table(4, 2, &[1])], keys)
+fn readings(key: Key) -> Records {
+    Records::new(16, vec![sensors(), table(4, 2, &[1])], vec![key])
+}
+
+/// Enters a sensor.
+fn enter(row: usize, text: &str) -> Step {
+    insert(0, row, &[name(text)])
+}
+
+/// Gives a sensor another name.
+fn rename(row: usize, text: &str) -> Step {
+    update(0, row, &[name(text)])
+}
+
+/// Enters a reading of a sensor. Readings are counted from 1.
+fn read(row: usize, text: &str) -> Step {
+    insert(1, row, &[Some(row as i64 + 1), name(text)])
 }
 
 fn any_capitals() -> Case {
     Case {
         title: "A sensor is the same in any capitals, and every spelling stays as it is typed",
-        schema: readings(vec![child_to_parent(CASCADE, CASCADE)]),
+        schema: readings(child_to_parent(CASCADE, CASCADE)),
         steps: vec![
-            insert(0, 0, &[name("Lf2")]),
-            insert(0, 1, &[name("LF2")]),
-            insert(0, 1, &[name("Lf3")]),
-            insert(1, 0, &[Some(1), name("lf2")]),
-            insert(1, 1, &[Some(2), name("LF2")]),
-            insert(1, 2, &[Some(3), name("Lf4")]),
-            update(0, 0, &[name("lF2")]),
+            enter(0, "Lf2"),
+            enter(1, "LF2"),
+            enter(1, "Lf3"),
+            read(0, "lf2"),
+            read(1, "LF2"),
+            read(2, "Lf4"),
+            rename(0, "lF2"),
             Step::ShowRows,
-            update(0, 1, &[name("LF2")]),
-            update(0, 0, &[name("Rf9")]),
+            rename(1, "LF2"),
+            rename(0, "Rf9"),
             Step::ShowRows,
             delete_where(1, 1, name("RF9")),
             delete_where(0, 0, name("rF9")),
@@ -79,33 +94,20 @@ fn respelled_parent() -> Case {
     let keys = keys.map(|(column, action)| key((1, &[column]), (0, &[0]), NO_ACTION, action));
     let mut children = table(2, 5, &[]);
     children.defaults[3] = names::word(b"RF2");
+    let child = |first, second| [first, second, name("lF2"), name("LF2"), name("Lf2")];
     Case {
         title: "Respelling a parent runs no action; another name runs every one",
         schema: Records::new(16, vec![sensors(), children], keys.collect()),
         steps: vec![
-            insert(0, 0, &[name("Lf2")]),
-            insert(
-                1,
-                0,
-                &[
-                    name("Lf2"),
-                    name("lf2"),
-                    name("lF2"),
-                    name("LF2"),
-                    name("Lf2"),
-                ],
-            ),
-            update(0, 0, &[name("LF2")]),
+            enter(0, "Lf2"),
+            insert(1, 0, &child(name("Lf2"), name("lf2"))),
+            rename(0, "LF2"),
             Step::ShowRows,
-            update(0, 0, &[name("Rf2")]),
-            update(
-                1,
-                0,
-                &[name("lf2"), None, name("lF2"), name("LF2"), name("Lf2")],
-            ),
-            update(0, 0, &[name("Rf2")]),
-            update(1, 0, &[None, None, name("lF2"), name("LF2"), name("Lf2")]),
-            update(0, 0, &[name("Rf2")]),
+            rename(0, "Rf2"),
+            update(1, 0, &child(name("lf2"), None)),
+            rename(0, "Rf2"),
+            update(1, 0, &child(None, None)),
+            rename(0, "Rf2"),
             Step::ShowRows,
         ],
     }
@@ -124,7 +126,7 @@ fn parents_mark() -> Case {
         schema: Records::new(16, tables, keys),
         steps: vec![
             begin(),
-            insert(0, 0, &[name("Lf2")]),
+            enter(0, "Lf2"),
             insert(1, 0, &[name("Lf2")]),
             insert(2, 0, &[name("lf2"), name("lf2")]),
             Step::ShowOrphans,
@@ -152,7 +154,7 @@ fn two_parents() -> Case {
         schema: Records::new(16, tables, keys),
         steps: vec![
             begin(),
-            insert(0, 0, &[name("Lf2")]),
+            enter(0, "Lf2"),
             insert(1, 0, &[name("Lf2")]),
             insert(2, 0, &[name("lf2")]),
             insert(2, 1, &[name("Lf2")]),
@@ -265,7 +267,7 @@ fn highest_byte() -> Case {
     let highest = |byte| word([0x31, 0, 0, 0, 0, 0, 0, byte]);
     Case {
         title: "Every byte is folded, also of a negative word, and the highest",
-        schema: readings(vec![child_to_parent(RESTRICT, CASCADE)]),
+        schema: readings(child_to_parent(RESTRICT, CASCADE)),
         steps: vec![
             insert(0, 0, &[negative(0x41)]),
             insert(0, 1, &[negative(0x61)]),
@@ -286,13 +288,13 @@ fn highest_byte() -> Case {
 fn restrict() -> Case {
     Case {
         title: "RESTRICT is held by a child row of another spelling",
-        schema: readings(vec![child_to_parent(RESTRICT, RESTRICT)]),
+        schema: readings(child_to_parent(RESTRICT, RESTRICT)),
         steps: vec![
-            insert(0, 0, &[name("Lf2")]),
-            insert(1, 0, &[Some(1), name("lF2")]),
+            enter(0, "Lf2"),
+            read(0, "lF2"),
             delete(0, 0),
-            update(0, 0, &[name("Lf3")]),
-            update(0, 0, &[name("LF2")]),
+            rename(0, "Lf3"),
+            rename(0, "LF2"),
             delete_where(0, 0, name("lf2")),
             delete(1, 0),
             delete(0, 0),
@@ -302,23 +304,23 @@ fn restrict() -> Case {
 }
 
 fn set_default() -> Case {
-    let mut schema = readings(vec![deferred(child_to_parent(SET_DEFAULT, SET_DEFAULT))]);
+    let mut schema = readings(deferred(child_to_parent(SET_DEFAULT, SET_DEFAULT)));
     schema.tables[1].defaults[1] = names::word(b"LF2");
     Case {
         title: "SET DEFAULT gives the old name in another spelling: it is written, and an orphan",
         schema,
         steps: vec![
-            insert(0, 0, &[name("Lf2")]),
-            insert(1, 0, &[Some(1), name("lf2")]),
+            enter(0, "Lf2"),
+            read(0, "lf2"),
             delete(0, 0),
             begin(),
             delete(0, 0),
             Step::ShowRows,
-            insert(0, 1, &[name("lF2")]),
+            enter(1, "lF2"),
             commit(),
             begin(),
-            update(0, 1, &[name("Rf1")]),
-            update(0, 1, &[name("lf2")]),
+            rename(1, "Rf1"),
+            rename(1, "lf2"),
             commit(),
             Step::ShowRows,
         ],
@@ -328,13 +330,13 @@ fn set_default() -> Case {
 fn renamed_nearly() -> Case {
     Case {
         title: "A new name that differs in a byte that is no letter runs the action",
-        schema: readings(vec![child_to_parent(CASCADE, CASCADE)]),
+        schema: readings(child_to_parent(CASCADE, CASCADE)),
         steps: vec![
-            insert(0, 0, &[name("L[")]),
-            insert(1, 0, &[Some(1), name("l[")]),
-            update(0, 0, &[name("l[")]),
+            enter(0, "L["),
+            read(0, "l["),
+            rename(0, "l["),
             Step::ShowRows,
-            update(0, 0, &[name("L{")]),
+            rename(0, "L{"),
             Step::ShowRows,
         ],
     }
@@ -350,7 +352,7 @@ fn set_by_search() -> Case {
         steps: vec![
             insert(0, 0, &[name("Lf2"), name("Left")]),
             insert(0, 1, &[name("Rf2"), name("left")]),
-            insert(1, 0, &[Some(1), name("LF2")]),
+            read(0, "LF2"),
             update_where(0, 0, name("lf2"), (0, name("lF2"))),
             update_where(0, 1, name("LEFT"), (1, name("Right"))),
             update_where(0, 1, name("left"), (1, name("Left"))),
@@ -378,12 +380,12 @@ fn handed_on() -> Case {
         title: "A respelling is handed on under a parent that is not folded, and ends under one that is",
         schema: Records::new(8, tables, keys),
         steps: vec![
-            insert(0, 0, &[name("Lf2")]),
-            insert(1, 0, &[Some(1), name("Lf2")]),
+            enter(0, "Lf2"),
+            read(0, "Lf2"),
             insert(2, 0, &[name("lf2")]),
-            update(0, 0, &[name("LF2")]),
+            rename(0, "LF2"),
             Step::ShowRows,
-            update(0, 0, &[name("Rf2")]),
+            rename(0, "Rf2"),
             Step::ShowRows,
             delete(0, 0),
             Step::ShowRows,
@@ -415,15 +417,15 @@ fn own_parent() -> Case {
 fn null_equals_nothing() -> Case {
     Case {
         title: "NULL equals nothing in a folded column, whatever word stands beside it",
-        schema: readings(vec![child_to_parent(CASCADE, CASCADE)]),
+        schema: readings(child_to_parent(CASCADE, CASCADE)),
         steps: vec![
             insert(0, 0, &[None]),
             insert(0, 1, &[None]),
-            insert(0, 2, &[name("Lf2")]),
+            enter(2, "Lf2"),
             insert(1, 0, &[Some(1), None]),
             Step::SetWord(343, names::word(b"lf2")),
             Step::SetWord(334, names::word(b"LF2")),
-            insert(0, 3, &[name("LF2")]),
+            enter(3, "LF2"),
             delete_where(0, 0, name("LF2")),
             Step::ShowRows,
             delete_where(0, 0, None),
@@ -435,14 +437,14 @@ fn null_equals_nothing() -> Case {
 fn put_back() -> Case {
     Case {
         title: "A rollback gives every spelling back",
-        schema: readings(vec![child_to_parent(CASCADE, CASCADE)]),
+        schema: readings(child_to_parent(CASCADE, CASCADE)),
         steps: vec![
-            insert(0, 0, &[name("Lf2")]),
-            insert(1, 0, &[Some(1), name("lF2")]),
+            enter(0, "Lf2"),
+            read(0, "lF2"),
             savepoint(),
-            update(0, 0, &[name("lf2")]),
+            rename(0, "lf2"),
             savepoint(),
-            update(0, 0, &[name("RF2")]),
+            rename(0, "RF2"),
             Step::ShowRows,
             rollback_to(2),
             Step::ShowRows,
@@ -460,10 +462,10 @@ fn broken() -> Case {
         title: "A broken key is broken in every spelling",
         schema: Records::new(16, vec![sensors, table(4, 2, &[1])], keys),
         steps: vec![
-            insert(0, 0, &[name("Lf2")]),
-            insert(0, 1, &[name("LF2")]),
-            insert(1, 0, &[Some(1), name("lf2")]),
-            update(0, 0, &[name("LF2")]),
+            enter(0, "Lf2"),
+            enter(1, "LF2"),
+            read(0, "lf2"),
+            rename(0, "LF2"),
             delete(0, 0),
             Step::ShowRows,
             Step::ShowOrphans,

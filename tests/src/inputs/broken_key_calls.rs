@@ -38,28 +38,21 @@ fn search_above(r: &mut Random, ground: &Ground, area: &Area) -> Vec<i64> {
         return searches::any(r, ground, area).words();
     }
     let table = r.pick(&whole).parent;
-    let live = area.live_rows(table).into_iter();
-    let rows: Vec<Row> = live.map(|(_, row)| row).collect();
-    searches::of_table(r, ground, area, (table, &rows)).words()
+    searches::of_table(r, ground, area, table).words()
 }
 
 /// The deletion of the first row of a chain in table 0 that is still there, or one of these calls.
 pub fn on_chain(r: &mut Random, ground: &Ground, words: &[i64]) -> Vec<i64> {
-    let area = ground.area(words);
-    let rows = area.live_rows(0).into_iter();
-    match rows.min_by_key(|(_, row)| row[0]) {
-        Some((number, _)) if r.once_in(2) => row_call(3, 0, number, &[]),
-        _ => any(r, ground, words),
-    }
+    let deletion = calls::chain_deletion(r, &ground.area(words), 2, |row| row[0]);
+    deletion.unwrap_or_else(|| any(r, ground, words))
 }
 
 /// A change of rows of a table that the key touches.
 fn on_table(r: &mut Random, ground: &Ground, area: &Area, table: usize, key: &Key) -> Vec<i64> {
-    let live = area.live_rows(table);
     if r.once_in(4) {
-        let rows: Vec<Row> = live.into_iter().map(|(_, row)| row).collect();
-        return searches::of_table(r, ground, area, (table, &rows)).words();
+        return searches::of_table(r, ground, area, table).words();
     }
+    let live = area.live_rows(table);
     if live.is_empty() || r.once_in(3) {
         let number = r.between(0, ground.schema.tables[table].rows - 1);
         return row_call(1, table, number, &entered(r, ground, area, table, key));

@@ -1,12 +1,10 @@
 //! Schemas and areas with broken foreign keys beside whole ones.
 
-use super::calls::{new_row, plain_call};
+use super::calls::new_row;
 use super::grounds::{self, Ground};
-use super::{areas, half_filled, herds, populated};
-use crate::engine::Engine;
-use crate::model::area::Area;
+use super::populated::{self, MakeRow};
+use super::{areas, half_filled, herds};
 use crate::model::schema;
-use crate::model::Model;
 use crate::random::Random;
 use crate::schema_bytes::build;
 use crate::schema_bytes::half_drawn::WAYS;
@@ -60,11 +58,7 @@ fn table(r: &mut Random, values: &[i64]) -> Table {
     let mut table = build::table(r.pick(&[3, 4, 6]), 4, &unique[..used]);
     table.not_null = r.pick(&[0, 0, 1, 2, 4, 8]);
     table.default_null = r.pick(&[0, 2, 6]);
-    for column in 0..4 {
-        if table.default_null >> column & 1 == 0 {
-            table.defaults[column] = r.pick(values);
-        }
-    }
+    table.defaults = grounds::defaults(r, values, 4, table.default_null);
     table
 }
 
@@ -125,28 +119,15 @@ pub fn chained(r: &mut Random, ground: &Ground) -> Vec<i64> {
     area.words
 }
 
-/// An area that inserts lead to, some with a level that can be rolled back to.
-pub fn reached(r: &mut Random, ground: &Ground) -> Vec<i64> {
-    let make = |r: &mut Random, area: &Area, table| new_row(r, ground, area, table);
-    let mut words = populated::reached(r, ground, &make);
-    if r.once_in(2) {
-        Model::of_the_paper().call(&ground.bytes, &mut words, &plain_call(5, 0));
-    }
-    words
-}
-
 /// An area with rows also in the child tables of broken keys, whatever the rules say, some with kept
 /// numbers of broken keys that are not 0.
 pub fn filled(r: &mut Random, ground: &Ground) -> Vec<i64> {
-    let half = r.once_in(2);
-    let make = |r: &mut Random, area: &Area, table| {
-        if half {
-            half_filled::row(r, ground, area, table)
-        } else {
-            new_row(r, ground, area, table)
-        }
+    let make: MakeRow = if r.once_in(2) {
+        &half_filled::row
+    } else {
+        &new_row
     };
-    let words = populated::filled(r, ground, &make);
+    let words = populated::filled(r, ground, make);
     if r.once_in(4) {
         with_kept_numbers(r, ground, &words)
     } else {

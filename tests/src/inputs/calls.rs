@@ -6,6 +6,9 @@ use crate::model::area::Area;
 use crate::model::schema::{Row, Value};
 use crate::random::Random;
 
+/// A row with its number.
+pub type Numbered = (usize, Row);
+
 /// The words of an insert (1), update (2) or, without a row, delete (3).
 pub fn row_call(kind: i64, table: usize, row: usize, new: &[Value]) -> Vec<i64> {
     let mut words = vec![kind, table as i64, row as i64, 0];
@@ -94,6 +97,34 @@ fn change_call(r: &mut Random, ground: &Ground, area: &Area) -> Vec<i64> {
         2 => row_call(2, table, row, &updated(r, ground, area, table, old)),
         _ => row_call(3, table, row, &[]),
     }
+}
+
+/// Some live row of a table, if there is one.
+pub fn some_row(r: &mut Random, area: &Area, table: usize) -> Option<Numbered> {
+    let live = area.live_rows(table);
+    (!live.is_empty()).then(|| live[r.between(0, live.len() - 1)].clone())
+}
+
+/// An insert of the row at some number, or an update where there is one.
+pub fn put(r: &mut Random, ground: &Ground, area: &Area, (table, row): (usize, Row)) -> Vec<i64> {
+    let number = r.between(0, ground.schema.tables[table].rows - 1);
+    let kind = match area.row(table, number) {
+        Some(_) => 2,
+        None => 1,
+    };
+    row_call(kind, table, number, &row)
+}
+
+/// Once in so many times the deletion of the first row, by these values, of a chain in table 0.
+pub fn chain_deletion<V: Ord>(
+    r: &mut Random,
+    area: &Area,
+    times: usize,
+    values: impl Fn(&Row) -> V,
+) -> Option<Vec<i64>> {
+    let rows = area.live_rows(0).into_iter();
+    let (number, _) = rows.min_by_key(|(_, row)| values(row))?;
+    r.once_in(times).then(|| row_call(3, 0, number, &[]))
 }
 
 /// A row whose child keys are often those of a live parent row, or nearly.

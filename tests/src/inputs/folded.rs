@@ -1,12 +1,10 @@
 //! Schemas with folded columns, and areas in which keys are spelled in several ways.
 
-use super::calls::{new_row, plain_call};
+use super::calls::new_row;
 use super::grounds::{self, Ground};
-use super::{areas, broken_keys, half_filled, herds, populated, spellings};
-use crate::engine::Engine;
+use super::{areas, broken_keys, half_filled, herds, spellings};
 use crate::model::area::Area;
 use crate::model::schema::{self, Row};
-use crate::model::Model;
 use crate::random::Random;
 use crate::schema_bytes::build;
 use crate::schema_bytes::records::{Key, Schema as Records, Table};
@@ -130,11 +128,7 @@ fn table(r: &mut Random, values: &[i64], columns: usize, unique: &[u8]) -> Table
     table.folded = r.byte() & low_bits(columns);
     let some = 1 << r.between(0, columns - 1);
     table.default_null = r.pick(&[0, 0, some]);
-    for column in 0..columns {
-        if table.default_null >> column & 1 == 0 {
-            table.defaults[column] = r.pick(values);
-        }
-    }
+    table.defaults = grounds::defaults(r, values, columns, table.default_null);
     if r.once_in(5) {
         table.not_null = 1 << r.between(0, columns - 1);
     }
@@ -160,20 +154,6 @@ fn key(r: &mut Random, (child, columns): (u8, usize), (parent, width): (u8, usiz
             actions.1,
         )
     }
-}
-
-/// An area that inserts lead to, some with a level that can be rolled back to.
-pub fn reached(r: &mut Random, ground: &Ground) -> Vec<i64> {
-    let mut words = populated::reached(r, ground, &|r, area, table| row(r, ground, area, table));
-    if r.once_in(3) {
-        Model::of_the_paper().call(&ground.bytes, &mut words, &plain_call(5, 0));
-    }
-    words
-}
-
-/// An area with such rows, whatever NOT NULL and unique keys say.
-pub fn filled(r: &mut Random, ground: &Ground) -> Vec<i64> {
-    populated::filled(r, ground, &|r, area, table| row(r, ground, area, table))
 }
 
 /// A row: its child keys are often those of parents in another spelling, and its parent key now and

@@ -1,7 +1,7 @@
 //! Calls in which spellings matter: parents and child rows in other spellings, unique keys that are
 //! equal without regard to capitals or nearly, and searches for other spellings.
 
-use super::calls::{self, new_row, row_call, value};
+use super::calls::{self, new_row, put, row_call, some_row, value};
 use super::folded::row;
 use super::grounds::Ground;
 use super::{searches, spellings};
@@ -10,9 +10,6 @@ use crate::model::keys::row_maps;
 use crate::model::schema::{Key, Row};
 use crate::model::search::Search;
 use crate::random::Random;
-
-/// A row with its number.
-type Numbered = (usize, Row);
 
 /// A call in which spellings matter, or one that leads to actions.
 pub fn any(r: &mut Random, ground: &Ground, words: &[i64]) -> Vec<i64> {
@@ -48,16 +45,9 @@ pub fn now_and_then(r: &mut Random, ground: &Ground, words: &[i64]) -> Vec<i64> 
 /// The deletion of the first row of a chain in table 0 that is still there, or one of these calls.
 pub fn on_chain(r: &mut Random, ground: &Ground, words: &[i64]) -> Vec<i64> {
     let key = &ground.schema.keys[0];
-    let rows = ground.area(words).live_rows(0).into_iter();
-    match rows.min_by_key(|(_, row)| key.compared(&key.parent_key(row))) {
-        Some((number, _)) if r.once_in(2) => row_call(3, 0, number, &[]),
-        _ => any(r, ground, words),
-    }
-}
-
-fn some_row(r: &mut Random, area: &Area, table: usize) -> Option<Numbered> {
-    let live = area.live_rows(table);
-    (!live.is_empty()).then(|| live[r.between(0, live.len() - 1)].clone())
+    let values = |row: &Row| key.compared(&key.parent_key(row));
+    let deletion = calls::chain_deletion(r, &ground.area(words), 2, values);
+    deletion.unwrap_or_else(|| any(r, ground, words))
 }
 
 /// The row with the values of these columns in other spellings.
@@ -125,16 +115,6 @@ fn child_entered(r: &mut Random, ground: &Ground, area: &Area, key: &Key) -> Opt
     }
     let child = respelled(r, child, &key.child_columns);
     Some(put(r, ground, area, (key.child, child)))
-}
-
-/// An insert of the row, or an update where there is one.
-fn put(r: &mut Random, ground: &Ground, area: &Area, (table, row): (usize, Row)) -> Vec<i64> {
-    let number = r.between(0, ground.schema.tables[table].rows - 1);
-    let kind = match area.row(table, number) {
-        Some(_) => 2,
-        None => 1,
-    };
-    row_call(kind, table, number, &row)
 }
 
 /// A row is respelled, or one is put in that has the unique key of another in another spelling, or

@@ -147,6 +147,17 @@ fn domain(r: &mut Random) -> Vec<i64> {
     values
 }
 
+/// Default values of the columns whose default is not NULL, as bits.
+pub fn defaults(r: &mut Random, values: &[i64], columns: usize, default_null: u8) -> [i64; 8] {
+    let mut defaults = [0; 8];
+    for (column, default) in defaults.iter_mut().enumerate().take(columns) {
+        if default_null >> column & 1 == 0 {
+            *default = r.pick(values);
+        }
+    }
+    defaults
+}
+
 fn small_table(r: &mut Random, values: &[i64]) -> Table {
     let columns = r.pick(&[1, 2, 2, 3, 3, 4, 8]);
     let mask = low_bits(columns);
@@ -155,12 +166,7 @@ fn small_table(r: &mut Random, values: &[i64]) -> Table {
         *slot = key_mask(r, columns);
     }
     let default_null = r.byte() & mask;
-    let mut defaults = [0; 8];
-    for (i, default) in defaults.iter_mut().enumerate().take(columns) {
-        if default_null >> i & 1 == 0 {
-            *default = r.pick(values);
-        }
-    }
+    let defaults = defaults(r, values, columns, default_null);
     Table {
         rows: r.pick(&[1, 2, 3, 4, 4, 6, 8]),
         columns: columns as u8,
@@ -285,12 +291,7 @@ pub fn tangled(r: &mut Random) -> Ground {
 fn tangled_table(r: &mut Random, values: &[i64], width: usize, columns: usize) -> Table {
     let mask = low_bits(columns);
     let default_null = r.byte() & r.byte() & mask & r.pick(&[0, 0, 255]);
-    let mut defaults = [0; 8];
-    for (i, default) in defaults.iter_mut().enumerate().take(columns) {
-        if default_null >> i & 1 == 0 {
-            *default = r.pick(values);
-        }
-    }
+    let defaults = defaults(r, values, columns, default_null);
     Table {
         rows: r.pick(&[3, 4, 6, 8]),
         columns: columns as u8,

@@ -1,12 +1,9 @@
 //! Schemas and areas in which many child keys are half-filled: some but not all columns are NULL.
 
-use super::calls::{new_row, plain_call};
-use super::grounds::Ground;
-use super::populated;
-use crate::engine::Engine;
+use super::calls::new_row;
+use super::grounds::{defaults, Ground};
 use crate::model::area::Area;
 use crate::model::schema::{self, Row};
-use crate::model::Model;
 use crate::random::Random;
 use crate::schema_bytes::build;
 use crate::schema_bytes::records::{Key, Schema as Records, Table};
@@ -42,11 +39,7 @@ fn table(r: &mut Random, values: &[i64], widths: [usize; 2], columns: usize) -> 
     let rows = r.pick(&[3, 4, 6]);
     let mut table = build::table(rows, columns as u8, &widths.map(low_bits));
     table.default_null = r.byte() & low_bits(columns) & r.pick(&[0, 255, 255]);
-    for column in 0..columns {
-        if table.default_null >> column & 1 == 0 {
-            table.defaults[column] = r.pick(values);
-        }
-    }
+    table.defaults = defaults(r, values, columns, table.default_null);
     if r.once_in(4) {
         table.not_null = 1 << r.between(0, columns - 1);
     }
@@ -84,21 +77,6 @@ fn with_other_match(one: &Key, other: &Key) -> Key {
         matching: 1 - one.matching,
         ..one.clone()
     }
-}
-
-/// An area with half-filled keys that inserts lead to, some of them with a level that can be rolled
-/// back to.
-pub fn reached(r: &mut Random, ground: &Ground) -> Vec<i64> {
-    let mut words = populated::reached(r, ground, &|r, area, table| row(r, ground, area, table));
-    if r.once_in(2) {
-        Model::of_the_paper().call(&ground.bytes, &mut words, &plain_call(5, 0));
-    }
-    words
-}
-
-/// An area with half-filled keys, whatever NOT NULL and unique keys say.
-pub fn filled(r: &mut Random, ground: &Ground) -> Vec<i64> {
-    populated::filled(r, ground, &|r, area, table| row(r, ground, area, table))
 }
 
 /// A row whose child keys are often half-filled, and now and then empty.

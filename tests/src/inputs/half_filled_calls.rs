@@ -1,6 +1,6 @@
 //! Calls on rows with half-filled child keys, and on parents that are equal in the filled columns.
 
-use super::calls::{self, new_row, row_call, value};
+use super::calls::{self, new_row, put, row_call, value, Numbered};
 use super::grounds::Ground;
 use super::half_filled::{empty, empty_some, row};
 use crate::model::area::Area;
@@ -8,9 +8,6 @@ use crate::model::keys::{equal_where_filled, half_filled};
 use crate::model::schema::{Key, Row};
 use crate::model::search::Search;
 use crate::random::Random;
-
-/// A row with its number.
-type Numbered = (usize, Row);
 
 /// A call on such a row or on such a parent, or one that leads to actions.
 pub fn any(r: &mut Random, ground: &Ground, words: &[i64]) -> Vec<i64> {
@@ -147,10 +144,5 @@ fn parent_entered(
             value => value,
         };
     }
-    let number = r.between(0, ground.schema.tables[key.parent].rows - 1);
-    let kind = match area.row(key.parent, number) {
-        Some(_) => 2,
-        None => 1,
-    };
-    row_call(kind, key.parent, number, &parent)
+    put(r, ground, area, (key.parent, parent))
 }

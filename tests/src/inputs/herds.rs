@@ -69,7 +69,6 @@ fn key(r: &mut Random, tables: usize, width: usize, columns: usize) -> Key {
 
 /// The foreign key by which the rows of a herd refer to one parent, and the values of its key.
 struct Herd<'a> {
-    ground: &'a Ground,
     key: &'a schema::Key,
     values: Vec<i64>,
 }
@@ -77,13 +76,13 @@ struct Herd<'a> {
 /// An area with a herd that inserts lead to.
 pub fn reached(r: &mut Random, ground: &Ground) -> Vec<i64> {
     let herd = Herd::new(r, ground);
-    populated::reached(r, ground, &|r, area, table| herd.row(r, area, table))
+    populated::reached(r, ground, &|r, g, area, table| herd.row(r, g, area, table))
 }
 
 /// An area with a herd, whatever NOT NULL and unique keys say.
 pub fn filled(r: &mut Random, ground: &Ground) -> Vec<i64> {
     let herd = Herd::new(r, ground);
-    populated::filled(r, ground, &|r, area, table| herd.row(r, area, table))
+    populated::filled(r, ground, &|r, g, area, table| herd.row(r, g, area, table))
 }
 
 impl<'a> Herd<'a> {
@@ -98,15 +97,14 @@ impl<'a> Herd<'a> {
             _ => r.pick(&ground.values),
         };
         Herd {
-            ground,
             key,
             values: defaults.into_iter().map(value).collect(),
         }
     }
 
     /// A row of the table: the parent, one of the herd, or another.
-    fn row(&self, r: &mut Random, area: &Area, table: usize) -> Row {
-        let mut row = new_row(r, self.ground, area, table);
+    fn row(&self, r: &mut Random, ground: &Ground, area: &Area, table: usize) -> Row {
+        let mut row = new_row(r, ground, area, table);
         if table == self.key.parent && r.once_in(3) {
             self.set(&mut row, &self.key.parent_columns);
         }
@@ -114,7 +112,7 @@ impl<'a> Herd<'a> {
             self.set(&mut row, &self.key.child_columns);
             if r.once_in(4) {
                 let column = r.pick(&self.key.child_columns);
-                row[column] = value(r, self.ground, table, column);
+                row[column] = value(r, ground, table, column);
             }
         }
         row

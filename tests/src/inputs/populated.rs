@@ -12,7 +12,7 @@ use crate::model::Model;
 use crate::random::Random;
 
 /// Makes a row of a table, given the area so far.
-pub type MakeRow<'a> = &'a dyn Fn(&mut Random, &Area, usize) -> Row;
+pub type MakeRow<'a> = &'a dyn Fn(&mut Random, &Ground, &Area, usize) -> Row;
 
 /// An area that inserts lead to, most of them in a transaction.
 pub fn reached(r: &mut Random, ground: &Ground, make: MakeRow) -> Vec<i64> {
@@ -23,11 +23,30 @@ pub fn reached(r: &mut Random, ground: &Ground, make: MakeRow) -> Vec<i64> {
         model.call(&ground.bytes, &mut area.words, &opening);
     }
     for (table, row) in places(r, ground) {
-        let new = make(r, &area, table);
+        let new = make(r, ground, &area, table);
         let insert = row_call(1, table, row, &new);
         model.call(&ground.bytes, &mut area.words, &insert);
     }
     area.words
+}
+
+/// The same, once in so many times with a level that can be rolled back to.
+pub fn reached_with_level(
+    r: &mut Random,
+    ground: &Ground,
+    times: usize,
+    make: MakeRow,
+) -> Vec<i64> {
+    let words = reached(r, ground, make);
+    with_level(r, ground, times, words)
+}
+
+/// The words, once in so many times with a level more, which can be rolled back to.
+pub fn with_level(r: &mut Random, ground: &Ground, times: usize, mut words: Vec<i64>) -> Vec<i64> {
+    if r.once_in(times) {
+        Model::of_the_paper().call(&ground.bytes, &mut words, &plain_call(5, 0));
+    }
+    words
 }
 
 /// An area with such rows, whatever NOT NULL and unique keys say, some with damaged states, with
@@ -35,7 +54,7 @@ pub fn reached(r: &mut Random, ground: &Ground, make: MakeRow) -> Vec<i64> {
 pub fn filled(r: &mut Random, ground: &Ground, make: MakeRow) -> Vec<i64> {
     let mut area = ground.area(&ground.fresh());
     for (table, row) in places(r, ground) {
-        let new = make(r, &area, table);
+        let new = make(r, ground, &area, table);
         area.put_row(table, row, Some(&new));
     }
     if r.once_in(2) {

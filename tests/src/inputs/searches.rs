@@ -9,23 +9,20 @@ use crate::random::Random;
 
 /// A search that mostly finds rows, often several.
 pub fn any(r: &mut Random, ground: &Ground, area: &Area) -> Search {
-    let (table, live) = fuller_table(r, ground, area);
-    of_table(r, ground, area, (table, &live))
+    let table = fuller_table(r, ground, area);
+    of_table(r, ground, area, table)
 }
 
-/// A search in a table that mostly finds rows, given the live ones.
-pub fn of_table(
-    r: &mut Random,
-    ground: &Ground,
-    area: &Area,
-    (table, live): (usize, &[Row]),
-) -> Search {
+/// A search in a table that mostly finds rows.
+pub fn of_table(r: &mut Random, ground: &Ground, area: &Area, table: usize) -> Search {
+    let live = area.live_rows(table).into_iter();
+    let live: Vec<Row> = live.map(|(_, row)| row).collect();
     let column = r.between(0, ground.schema.tables[table].columns - 1);
     let (column, sought) = match r.between(0, 5) {
         0 => (column, value(r, ground, table, column)),
         1 => (column, None),
         _ if live.is_empty() => (column, value(r, ground, table, column)),
-        _ => common_value(r, live),
+        _ => common_value(r, &live),
     };
     let set = (!r.once_in(3)).then(|| set(r, ground, area, table, column));
     Search {
@@ -36,16 +33,12 @@ pub fn of_table(
     }
 }
 
-/// The one of two tables that has more live rows, with these.
-fn fuller_table(r: &mut Random, ground: &Ground, area: &Area) -> (usize, Vec<Row>) {
+/// The one of two tables that has more live rows.
+fn fuller_table(r: &mut Random, ground: &Ground, area: &Area) -> usize {
     let last = ground.schema.tables.len() - 1;
-    let rows = |table| {
-        let live = area.live_rows(table).into_iter();
-        (table, live.map(|(_, row)| row).collect::<Vec<Row>>())
-    };
-    let one = rows(r.between(0, last));
-    let other = rows(r.between(0, last));
-    if one.1.len() < other.1.len() {
+    let (one, other) = (r.between(0, last), r.between(0, last));
+    let rows = |table| area.live_rows(table).len();
+    if rows(one) < rows(other) {
         other
     } else {
         one

@@ -1,7 +1,7 @@
 //! Calls in which windows matter: days at the ends of windows, windows moved, shortened and
 //! lengthened, windows that touch or share a day, and searches for days.
 
-use super::calls::{self, row_call};
+use super::calls::{self, put, row_call, some_row};
 use super::grounds::Ground;
 use super::windows::{as_child, as_parent, row, set_window, window, window_of, windowed_keys};
 use super::{broken_key_calls, searches, spellings};
@@ -10,9 +10,6 @@ use crate::model::keys::{full, row_maps};
 use crate::model::schema::{Key, Row, Value};
 use crate::model::search::Search;
 use crate::random::Random;
-
-/// A row with its number.
-type Numbered = (usize, Row);
 
 /// A call in which windows matter, or one that leads to actions.
 pub fn any(r: &mut Random, ground: &Ground, words: &[i64]) -> Vec<i64> {
@@ -49,16 +46,8 @@ pub fn now_and_then(r: &mut Random, ground: &Ground, words: &[i64]) -> Vec<i64> 
 
 /// The deletion of the first row of a chain in table 0 that is still there, or one of these calls.
 pub fn on_chain(r: &mut Random, ground: &Ground, words: &[i64]) -> Vec<i64> {
-    let rows = ground.area(words).live_rows(0).into_iter();
-    match rows.min_by_key(|(_, row)| row[0]) {
-        Some((number, _)) if r.once_in(3) => row_call(3, 0, number, &[]),
-        _ => any(r, ground, words),
-    }
-}
-
-fn some_row(r: &mut Random, area: &Area, table: usize) -> Option<Numbered> {
-    let live = area.live_rows(table);
-    (!live.is_empty()).then(|| live[r.between(0, live.len() - 1)].clone())
+    let deletion = calls::chain_deletion(r, &ground.area(words), 3, |row| row[0]);
+    deletion.unwrap_or_else(|| any(r, ground, words))
 }
 
 /// A row is entered, or made of another one; searches where the table is missing.
@@ -68,16 +57,6 @@ fn entered(r: &mut Random, ground: &Ground, area: &Area, table: usize) -> Vec<i6
     }
     let new = row(r, ground, area, table);
     put(r, ground, area, (table, new))
-}
-
-/// An insert of the row, or an update where there is one.
-fn put(r: &mut Random, ground: &Ground, area: &Area, (table, row): (usize, Row)) -> Vec<i64> {
-    let number = r.between(0, ground.schema.tables[table].rows - 1);
-    let kind = match area.row(table, number) {
-        Some(_) => 2,
-        None => 1,
-    };
-    row_call(kind, table, number, &row)
 }
 
 /// A parent, most often one of some child row, is deleted or changed in its window or its names.

@@ -1,14 +1,12 @@
 //! Schemas with windowed keys, and areas in which windows touch, share days, or hold none.
 
-use super::calls::{new_row, plain_call, spelled};
+use super::calls::{new_row, spelled};
 use super::grounds::Ground;
 use super::populated;
-use crate::engine::Engine;
 use crate::model::area::Area;
 use crate::model::keys::orphan_counts;
 use crate::model::rules::Rules;
 use crate::model::schema::{Key, Row, Value};
-use crate::model::Model;
 use crate::random::Random;
 use crate::schema_bytes::build;
 use crate::schema_bytes::records::{self, Schema as Records, Table};
@@ -204,10 +202,7 @@ pub fn chained(r: &mut Random) -> (Ground, Vec<i64>) {
             area.put_row(1, number, Some(&vec![Some(id), Some(first + 1)]));
         }
     }
-    let mut words = area.words;
-    if r.once_in(2) {
-        Model::of_the_paper().call(&ground.bytes, &mut words, &plain_call(5, 0));
-    }
+    let words = populated::with_level(r, &ground, 2, area.words);
     (ground, words)
 }
 
@@ -328,20 +323,6 @@ pub fn as_child(r: &mut Random, ground: &Ground, area: &Area, key: &Key, row: &m
     }
     let last = key.child_columns[key.child_columns.len() - 1];
     row[last] = day(r, ground, window_of(key, parent));
-}
-
-/// An area that inserts lead to, some with a level that can be rolled back to.
-pub fn reached(r: &mut Random, ground: &Ground) -> Vec<i64> {
-    let mut words = populated::reached(r, ground, &|r, area, table| row(r, ground, area, table));
-    if r.once_in(3) {
-        Model::of_the_paper().call(&ground.bytes, &mut words, &plain_call(5, 0));
-    }
-    words
-}
-
-/// An area with such rows, whatever windows, NOT NULL and unique keys say.
-pub fn filled(r: &mut Random, ground: &Ground) -> Vec<i64> {
-    populated::filled(r, ground, &|r, area, table| row(r, ground, area, table))
 }
 
 /// The words with the windows of some parent rows altered, or given to rows of the same names; the

@@ -86,14 +86,14 @@ pub const ORDER: &[Mistake] = &[
     ("23 judged after NOT NULL", |rules| move_check(rules, 23, 3)),
     ("23 judged after unique", |rules| move_check(rules, 23, 4)),
     ("an action's row change not judged by 23", |rules| {
-        set_check(rules, 23, |area, change| {
+        set_check(rules, 23, |_, area, change| {
             change.depth > 1 || uses_no_broken_key(area, change, uses)
         });
     }),
     (
         "a row change at depth 3 or more not judged by 23",
         |rules| {
-            set_check(rules, 23, |area, change| {
+            set_check(rules, 23, |_, area, change| {
                 change.depth > 2 || uses_no_broken_key(area, change, uses)
             });
         },
@@ -105,73 +105,47 @@ pub const ORDER: &[Mistake] = &[
 /// Which kinds of row changes use a broken key.
 pub const KINDS: &[Mistake] = &[
     ("the deletion of a child row refused by 23", |rules| {
-        set_check(rules, 23, |area, change| {
-            uses_no_broken_key(area, change, |key, table, kind| {
-                key.child == table || uses(key, table, kind)
-            })
-        });
+        rules.uses = |key, table, kind| key.child == table || uses(key, table, kind);
     }),
     ("the insert of a parent row refused by 23", |rules| {
-        set_check(rules, 23, |area, change| {
-            uses_no_broken_key(area, change, |key, table, kind| {
-                key.parent == table || uses(key, table, kind)
-            })
-        });
+        rules.uses = |key, table, kind| key.parent == table || uses(key, table, kind);
     }),
     ("the deletion of a parent row let pass", |rules| {
-        set_check(rules, 23, |area, change| {
-            uses_no_broken_key(area, change, |key, table, kind| {
-                kind != Kind::Delete && uses(key, table, kind)
-            })
-        });
+        rules.uses = |key, table, kind| kind != Kind::Delete && uses(key, table, kind);
     }),
     ("the update of a parent row let pass", |rules| {
-        set_check(rules, 23, |area, change| {
-            uses_no_broken_key(area, change, |key, table, kind| {
-                let update = kind == Kind::Update && key.child != table;
-                !update && uses(key, table, kind)
-            })
-        });
+        rules.uses = |key, table, kind| {
+            let update = kind == Kind::Update && key.child != table;
+            !update && uses(key, table, kind)
+        };
     }),
     ("the insert of a child row let pass", |rules| {
-        set_check(rules, 23, |area, change| {
-            uses_no_broken_key(area, change, |key, table, kind| {
-                kind != Kind::Insert && uses(key, table, kind)
-            })
-        });
+        rules.uses = |key, table, kind| kind != Kind::Insert && uses(key, table, kind);
     }),
     ("the update of a child row let pass", |rules| {
-        set_check(rules, 23, |area, change| {
-            uses_no_broken_key(area, change, |key, table, kind| {
-                let update = kind == Kind::Update && key.parent != table;
-                !update && uses(key, table, kind)
-            })
-        });
+        rules.uses = |key, table, kind| {
+            let update = kind == Kind::Update && key.parent != table;
+            !update && uses(key, table, kind)
+        };
     }),
     (
         "a self-referring broken key used by child rows alone",
         |rules| {
-            set_check(rules, 23, |area, change| {
-                uses_no_broken_key(area, change, |key, table, kind| {
-                    let deletion = kind == Kind::Delete && key.child == table;
-                    !deletion && uses(key, table, kind)
-                })
-            });
+            rules.uses = |key, table, kind| {
+                let deletion = kind == Kind::Delete && key.child == table;
+                !deletion && uses(key, table, kind)
+            };
         },
     ),
     ("a deferred broken key used by nothing", |rules| {
-        set_check(rules, 23, |area, change| {
-            uses_no_broken_key(area, change, |key, table, kind| {
-                !key.deferred && uses(key, table, kind)
-            })
-        });
+        rules.uses = |key, table, kind| !key.deferred && uses(key, table, kind);
     }),
 ];
 
 /// Which values a row change that uses a broken key must have.
 pub const VALUES: &[Mistake] = &[
     ("an update that alters nothing let pass", |rules| {
-        set_check(rules, 23, |area, change| {
+        set_check(rules, 23, |_, area, change| {
             let old = area.row(change.table, change.row);
             old == change.new || uses_no_broken_key(area, change, uses)
         });
@@ -179,7 +153,7 @@ pub const VALUES: &[Mistake] = &[
     (
         "an update beside a broken key's columns let pass",
         |rules| {
-            set_check(rules, 23, |area, change| {
+            set_check(rules, 23, |_, area, change| {
                 !used_by(area, change, |key, old| match (old, &change.new) {
                     (Some(old), Some(new)) => alters(key, change.table, old, new),
                     _ => true,
@@ -188,7 +162,7 @@ pub const VALUES: &[Mistake] = &[
         },
     ),
     ("a child row with NULL in a broken key let pass", |rules| {
-        set_check(rules, 23, |area, change| {
+        set_check(rules, 23, |_, area, change| {
             !used_by(area, change, |key, old| match &change.new {
                 Some(new) if key.child == change.table && !full(&key.child_key(new)) => {
                     key.parent == change.table && old.is_some()
@@ -198,7 +172,7 @@ pub const VALUES: &[Mistake] = &[
         });
     }),
     ("a parent row that no row refers to let pass", |rules| {
-        set_check(rules, 23, |area, change| {
+        set_check(rules, 23, |_, area, change| {
             !used_by(area, change, |key, old| {
                 let as_child = key.child == change.table && change.new.is_some();
                 let refer = |old: &Row| !having(area, key, &key.parent_key(old)).is_empty();
@@ -207,7 +181,7 @@ pub const VALUES: &[Mistake] = &[
         });
     }),
     ("only the first foreign key judged by 23", |rules| {
-        set_check(rules, 23, |area, change| {
+        set_check(rules, 23, |_, area, change| {
             let first = area.schema.keys.first().filter(|key| key.broken);
             first.map_or(true, |key| !uses(key, change.table, kind(area, change)))
         });

@@ -114,17 +114,17 @@ pub const MARKS: &[Mistake] = &[
         };
     }),
     ("unique keys not folded", |rules| {
-        set_check(rules, 17, |area, change| {
+        set_check(rules, 17, |_, area, change| {
             unique(area, change, |_, _| None, equal)
         });
     }),
     ("every column of a unique key folded", |rules| {
-        set_check(rules, 17, |area, change| {
+        set_check(rules, 17, |_, area, change| {
             unique(area, change, |_, _| Some(folded), equal)
         });
     }),
     ("unique keys folded if their first column is", |rules| {
-        set_check(rules, 17, |area, change| {
+        set_check(rules, 17, |_, area, change| {
             unique(area, change, |table, _| own_mark(table, 0), equal)
         });
     }),

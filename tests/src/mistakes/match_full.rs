@@ -131,7 +131,7 @@ fn simple(key: &Key, child_key: &Row, parent_keys: &BTreeSet<Row>) -> bool {
 }
 
 /// Whether the new row of a change is half-filled under no key of MATCH FULL.
-fn no_half_filled(area: &Area, change: &Change) -> bool {
+fn no_half_filled(_: &Rules, area: &Area, change: &Change) -> bool {
     let mut keys = area.schema.keys.iter();
     let is_half = |key: &Key, new: &Row| {
         key.child == change.table && is_match_full(key) && half_filled(&key.child_key(new))

@@ -8,21 +8,21 @@ use crate::model::rules::Rules;
 
 pub const ALL: &[Mistake] = &[
     ("too deep with none used", |rules| {
-        set_check(rules, 14, |_, change| change.depth <= 1);
+        set_check(rules, 14, |_, _, change| change.depth <= 1);
     }),
     ("depth 17 let pass", |rules| {
-        set_check(rules, 14, |_, change| change.depth <= 17);
+        set_check(rules, 14, |_, _, change| change.depth <= 17);
     }),
     ("depth 16 refused", |rules| {
-        set_check(rules, 14, |_, change| change.depth <= 15);
+        set_check(rules, 14, |_, _, change| change.depth <= 15);
     }),
     ("journal full with none used", |rules| {
-        set_check(rules, 15, |area, _| {
+        set_check(rules, 15, |_, area, _| {
             (1..area.schema.room).contains(&area.used())
         });
     }),
     ("the journal's last record not used", |rules| {
-        set_check(rules, 15, |area, _| area.used() + 1 < area.schema.room);
+        set_check(rules, 15, |_, area, _| area.used() + 1 < area.schema.room);
     }),
     ("journal room judged before depth", |rules| {
         move_check(rules, 15, 0)
@@ -37,7 +37,7 @@ pub const ALL: &[Mistake] = &[
         rules.checks.retain(|check| check.0 != 17)
     }),
     ("NULL in a unique key equals NULL", |rules| {
-        set_check(rules, 17, |area, change| {
+        set_check(rules, 17, |_, area, change| {
             unique(area, change, own_mark, |one, other| one == other)
         });
     }),
@@ -129,7 +129,7 @@ pub fn check_of(rules: &mut Rules, code: i64) -> &mut Check {
     slot.expect("there is such a check")
 }
 
-pub fn set_check(rules: &mut Rules, code: i64, holds: fn(&Area, &Change) -> bool) {
+pub fn set_check(rules: &mut Rules, code: i64, holds: fn(&Rules, &Area, &Change) -> bool) {
     check_of(rules, code).1 = holds;
 }
 

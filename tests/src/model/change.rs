@@ -46,16 +46,18 @@ pub fn kind(area: &Area, change: &Change) -> Kind {
 }
 
 /// A check of a row change, and the refusal where it does not hold.
-pub type Check = (i64, fn(&Area, &Change) -> bool);
+pub type Check = (i64, fn(&Rules, &Area, &Change) -> bool);
 
 pub const CHECKS: &[Check] = &[
-    (14, |_, change| change.depth <= 16),
-    (15, |area, _| area.used() < area.schema.room),
-    (23, |area, change| uses_no_broken_key(area, change, uses)),
-    (16, not_null),
-    (17, |area, change| unique(area, change, own_mark, equal)),
-    (24, |area, change| {
-        windows::pass(area, change, windows::PAPER)
+    (14, |_, _, change| change.depth <= 16),
+    (15, |_, area, _| area.used() < area.schema.room),
+    (23, |rules, area, change| {
+        uses_no_broken_key(area, change, rules.uses)
+    }),
+    (16, |_, area, change| not_null(area, change)),
+    (17, |_, area, change| unique(area, change, own_mark, equal)),
+    (24, |rules, area, change| {
+        windows::pass(area, change, rules.windows)
     }),
 ];
 
@@ -125,7 +127,7 @@ pub fn written<'a, 's: 'a>(
     change: &'a Change,
 ) -> Result<Vec<Walk<'a>>, i64> {
     for (code, holds) in &rules.checks {
-        if !holds(area, change) {
+        if !holds(rules, area, change) {
             return Err(*code);
         }
     }

@@ -2,7 +2,7 @@
 //! replaced. `of_the_paper` gives the paper's own.
 
 use super::area::Area;
-use super::change::{self, Check};
+use super::change::{self, Check, Kind};
 use super::damage;
 use super::form;
 use super::keys;
@@ -12,6 +12,7 @@ use super::search::{self, Search};
 use super::statement::{self, End, Outcome};
 use super::transaction;
 use super::walk::{self, Walk};
+use super::windows;
 use crate::engine::Orphan;
 use std::collections::BTreeSet;
 
@@ -25,6 +26,10 @@ pub struct Rules {
     pub area_forms: Vec<damage::Form>,
     /// The checks of a row change, in order: refusals 14, 15, 23, 16, 17 and 24.
     pub checks: Vec<Check>,
+    /// Refusal 23: whether a change of this kind of a row of the table uses a foreign key.
+    pub uses: fn(&Key, usize, Kind) -> bool,
+    /// Refusal 24: how a row that is written is judged by its windows.
+    pub windows: windows::Reading,
     /// The checks at the end of a statement, in order, each for all keys: refusals 19 and 20.
     pub ends: Vec<End>,
     /// Whether a live row is an orphan: of which key, its child key, the keys of live parent rows, all
@@ -103,6 +108,8 @@ impl Rules {
             call_forms: [form::FORMS, search::FORMS].concat(),
             area_forms: damage::FORMS.to_vec(),
             checks: change::CHECKS.to_vec(),
+            uses: change::uses,
+            windows: windows::PAPER,
             ends: statement::ENDS.to_vec(),
             orphan: keys::orphan,
             maps: keys::maps,

@@ -5,7 +5,7 @@ use crate::engine::Built;
 use crate::random::Random;
 use crate::report::Report;
 use crate::trials::broken_keys::SORT;
-use crate::trials::broken_keys_situations::{OF_LISTS, SITUATIONS};
+use crate::trials::broken_keys_situations::SITUATIONS;
 use crate::trials::every_parent::EveryParent;
 
 const NAME: &str = "broken keys";
@@ -13,18 +13,13 @@ const NAME: &str = "broken keys";
 /// How many whole keys and broken ones there are to be among every parent.
 const LEAST_KEYS: usize = 100;
 
-/// The codes of calls and of lists, but for those of malformed inputs.
+/// The codes of calls, but for those of malformed inputs.
 const CODES: &[i64] = &[0, 10, 11, 12, 13, 14, 15, 16, 17, 18, 19, 20, 21, 23];
-const CODES_OF_LISTS: &[i64] = &[0, 10, 22];
 
 pub fn run(r: &mut Random, report: &mut Report) {
     every_parent(report);
     let watched = watched::run(r, report, (NAME, &SORT), CODES);
-    watched::report_lists(report, NAME, &watched, CODES_OF_LISTS);
-    let situations = SITUATIONS.into_iter().flatten();
-    watched::report_situations(report, NAME, situations, &watched);
-    let title = "lists on broken keys";
-    watched::report_situations(report, title, OF_LISTS.iter(), &watched);
+    watched::report_with_lists(report, (NAME, &SORT), SITUATIONS.all(), &watched);
 }
 
 /// Whether a key is broken, for every parent of some forms.

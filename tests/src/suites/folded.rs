@@ -6,7 +6,6 @@ use crate::random::Random;
 use crate::report::Report;
 use crate::trials::every_byte::EveryByte;
 use crate::trials::folded::SORT;
-use crate::trials::folded_lists;
 use crate::trials::folded_situations::SITUATIONS;
 
 /// How many equal pairs of words and unequal ones there are to be among every pair of bytes.
@@ -14,18 +13,13 @@ const LEAST_PAIRS: usize = 1_000;
 
 const NAME: &str = "folded columns";
 
-/// The codes of calls and of lists, but for those of malformed inputs.
+/// The codes of calls, but for those of malformed inputs.
 const CODES: &[i64] = &[0, 10, 11, 12, 13, 14, 15, 16, 17, 18, 19, 20, 21, 23];
-const CODES_OF_LISTS: &[i64] = &[0, 10, 22];
 
 pub fn run(r: &mut Random, report: &mut Report) {
     every_byte(report);
     let watched = watched::run(r, report, (NAME, &SORT), CODES);
-    watched::report_lists(report, NAME, &watched, CODES_OF_LISTS);
-    let situations = SITUATIONS.into_iter().flatten();
-    watched::report_situations(report, NAME, situations, &watched);
-    let title = "lists on folded columns";
-    watched::report_situations(report, title, folded_lists::SITUATIONS.iter(), &watched);
+    watched::report_with_lists(report, (NAME, &SORT), SITUATIONS.all(), &watched);
 }
 
 /// Whether words are equal, for every pair of bytes at every place.

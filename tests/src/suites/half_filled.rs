@@ -13,6 +13,5 @@ const CODES: &[i64] = &[0, 10, 11, 12, 15, 16, 17, 18, 19, 20, 21, 23];
 
 pub fn run(r: &mut Random, report: &mut Report) {
     let watched = watched::run(r, report, (NAME, &SORT), CODES);
-    let situations = SITUATIONS.into_iter().flatten();
-    watched::report_situations(report, NAME, situations, &watched);
+    watched::report_situations(report, NAME, SITUATIONS.all(), &watched);
 }

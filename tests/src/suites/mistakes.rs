@@ -15,7 +15,7 @@ use crate::trials::operations::Operations;
 use crate::trials::orphan_lists::OrphanLists;
 use crate::trials::replay::Replay;
 use crate::trials::sqlite::Alike;
-use crate::trials::watched::Watched;
+use crate::trials::watched::{Sort, Watched};
 use crate::trials::windows;
 
 /// No more parts are tried with an engine once so many have caught it.
@@ -37,20 +37,16 @@ const PARTS: &[Part] = &[
         outcomes.iter().any(|outcome| outcome.is_err())
     }),
     ("half-filled keys", |engine, r| {
-        let mut half_filled = Watched::new(&half_filled::SORT);
-        (0..60).any(|_| half_filled.trial(engine, r).is_err())
+        caught_on(&half_filled::SORT, 60, engine, r)
     }),
     ("folded columns", |engine, r| {
-        let mut folded = Watched::new(&folded::SORT);
-        (0..60).any(|_| folded.trial(engine, r).is_err())
+        caught_on(&folded::SORT, 60, engine, r)
     }),
     ("windowed keys", |engine, r| {
-        let mut windows = Watched::new(&windows::SORT);
-        (0..100).any(|_| windows.trial(engine, r).is_err())
+        caught_on(&windows::SORT, 100, engine, r)
     }),
     ("broken keys", |engine, r| {
-        let mut broken_keys = Watched::new(&broken_keys::SORT);
-        (0..200).any(|_| broken_keys.trial(engine, r).is_err())
+        caught_on(&broken_keys::SORT, 200, engine, r)
     }),
     ("orphan lists", |engine, r| {
         let mut lists = OrphanLists::new();
@@ -83,6 +79,12 @@ const PARTS: &[Part] = &[
         (0..4_000).any(|_| operations.trial(engine, r).is_err())
     }),
 ];
+
+/// Whether so many trials of a sort catch an engine.
+fn caught_on(sort: &'static Sort, trials: usize, engine: &dyn Engine, r: &mut Random) -> bool {
+    let mut watched = Watched::new(sort);
+    (0..trials).any(|_| watched.trial(engine, r).is_err())
+}
 
 pub fn run(r: &mut Random, report: &mut Report) {
     let engines = mistakes::all();

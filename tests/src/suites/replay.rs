@@ -101,39 +101,43 @@ fn report_struck(report: &mut Report, replay: &Replay) {
 /// What was met on schemas with broken keys.
 fn report_broken(report: &mut Report, replay: &Replay) {
     let struck = replay.parents_entered - replay.parents_left;
-    for (name, least, count) in [
+    let met = [
         ("lists on broken keys", LEAST_HALF_DRAWN, replay.half_drawn),
         ("calls refused by 23", LEAST_BY_23, replay.refused_by_23),
         ("parents left", LEAST_PARENTS_ENTERED, replay.parents_left),
         ("parents struck", LEAST_PARENTS_ENTERED, struck),
-    ] {
-        report.at_least(&format!("replayed: {}", name), least, count);
-    }
+    ];
+    report_replayed(report, &met);
 }
 
 /// What was met on schemas with folded columns.
 fn report_folded(report: &mut Report, replay: &Replay) {
     let (left, all) = (replay.respelling_left, replay.respelling);
-    for (name, least, count) in [
+    let met = [
         ("lists on folded columns", LEAST_FOLDED, replay.folded),
         ("other spellings left", LEAST_RESPELLING, left),
         ("other spellings struck", LEAST_RESPELLING, all - left),
-    ] {
-        report.at_least(&format!("replayed: {}", name), least, count);
-    }
+    ];
+    report_replayed(report, &met);
 }
 
 /// What was met on schemas with windowed keys.
 fn report_windowed(report: &mut Report, replay: &Replay) {
     let (left, all) = (replay.moving_left, replay.moving);
-    for (name, least, count) in [
+    let met = [
         ("lists on windowed keys", LEAST_WINDOWED, replay.windowed),
         ("windows moved left", LEAST_MOVING, left),
         ("windows moved struck", LEAST_MOVING, all - left),
-    ] {
-        report.at_least(&format!("replayed: {}", name), least, count);
-    }
+    ];
+    report_replayed(report, &met);
     let codes = replay.codes_of_windowed.of(CODES);
     let title = "replayed on windowed keys by code";
     report.counts(title, LEAST_OF_A_CODE, &codes);
+}
+
+/// Each with its name, how many there are to be, and how many there were.
+fn report_replayed(report: &mut Report, met: &[(&str, usize, usize)]) {
+    for &(name, least, count) in met {
+        report.at_least(&format!("replayed: {}", name), least, count);
+    }
 }

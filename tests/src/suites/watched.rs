@@ -12,6 +12,9 @@ const LEAST_CALLS: usize = 200_000;
 const LEAST_OF_A_CODE: usize = 100;
 const LEAST_OF_A_SITUATION: usize = 5;
 
+/// The codes of lists, but for those of malformed inputs.
+const CODES_OF_LISTS: &[i64] = &[0, 10, 22];
+
 /// Runs the calls of a sort and reports them by code. Their name is that of what they are on.
 pub fn run(
     r: &mut Random,
@@ -36,10 +39,18 @@ pub fn run(
     watched
 }
 
-/// Reports the codes of the lists.
-pub fn report_lists(report: &mut Report, name: &str, watched: &Watched, codes: &[i64]) {
-    let met = watched.lists.codes.of(codes);
+/// Reports the codes of the lists, and how often each situation of calls and of lists was met.
+pub fn report_with_lists<S: 'static>(
+    report: &mut Report,
+    (name, sort): (&str, &'static Sort),
+    situations: impl Iterator<Item = &'static (&'static str, &'static [Origin], S)> + Clone,
+    watched: &Watched,
+) {
+    let met = watched.lists.codes.of(CODES_OF_LISTS);
     report.counts(&format!("lists on {} by code", name), LEAST_OF_A_CODE, &met);
+    report_situations(report, name, situations, watched);
+    let title = format!("lists on {}", name);
+    report_situations(report, &title, sort.of_lists.iter(), watched);
 }
 
 /// Reports how often each situation was met.

@@ -5,15 +5,13 @@ use crate::engine::Built;
 use crate::random::Random;
 use crate::report::Report;
 use crate::trials::every_day::EveryDay;
-use crate::trials::window_lists;
 use crate::trials::window_situations::SITUATIONS;
 use crate::trials::windows::SORT;
 
 const NAME: &str = "windowed keys";
 
-/// The codes of calls and of lists, but for those of malformed inputs.
+/// The codes of calls, but for those of malformed inputs.
 const CODES: &[i64] = &[0, 10, 11, 12, 13, 14, 15, 16, 17, 18, 19, 20, 21, 23, 24];
-const CODES_OF_LISTS: &[i64] = &[0, 10, 22];
 
 /// How many accepted calls and refused ones there are to be among every day.
 const LEAST_CALLS: usize = 500;
@@ -21,11 +19,8 @@ const LEAST_CALLS: usize = 500;
 pub fn run(r: &mut Random, report: &mut Report) {
     every_day(report);
     let watched = watched::run(r, report, (NAME, &SORT), CODES);
-    watched::report_lists(report, NAME, &watched, CODES_OF_LISTS);
     let situations = SITUATIONS.into_iter().flatten();
-    watched::report_situations(report, NAME, situations, &watched);
-    let title = "lists on windowed keys";
-    watched::report_situations(report, title, window_lists::SITUATIONS.iter(), &watched);
+    watched::report_with_lists(report, (NAME, &SORT), situations, &watched);
 }
 
 /// Days and windows, every one of some beside every other.

@@ -1,43 +1,34 @@
 //! Calls and orphan lists on schemas with broken foreign keys.
 
-use super::broken_keys_seen::Seen;
-use super::broken_keys_situations as situations;
-use super::origins::Origin;
+use super::broken_keys_situations::{self as situations, OF_LISTS};
+use super::seen::Seen;
 use super::watched::{Sort, Start};
 use crate::inputs::broken_key_calls::{any, on_chain};
+use crate::inputs::calls::new_row;
 use crate::inputs::grounds::Ground;
-use crate::inputs::{broken_keys, damages};
+use crate::inputs::{broken_keys, damages, populated};
 use crate::random::Random;
 
 pub const SORT: Sort = Sort {
     start,
     damaged,
-    shown: |rules, made| situations::shown(&Seen::new(rules, made)).collect(),
-    shown_by_list: |area| situations::shown_by_list(area).collect(),
+    shown: |rules, made| situations::shown(&Seen::new(rules, made)),
+    of_lists: OF_LISTS,
 };
 
 fn start(r: &mut Random) -> Start {
     if r.once_in(8) {
         let ground = broken_keys::deep(r);
-        return Start {
-            area: broken_keys::chained(r, &ground),
-            ground,
-            origin: Origin::Reached,
-            call: on_chain,
-        };
+        let area = broken_keys::chained(r, &ground);
+        return Start::reached(ground, area, on_chain);
     }
     let ground = broken_keys::ground(r);
-    let (area, origin) = if r.once_in(2) {
-        (broken_keys::filled(r, &ground), Origin::Filled)
-    } else {
-        (broken_keys::reached(r, &ground), Origin::Reached)
-    };
-    Start {
-        ground,
-        area,
-        origin,
-        call: any,
+    if r.once_in(2) {
+        let area = broken_keys::filled(r, &ground);
+        return Start::filled(ground, area, any);
     }
+    let area = populated::reached_with_level(r, &ground, 2, &new_row);
+    Start::reached(ground, area, any)
 }
 
 /// A damaged copy: of single words, of the states of rows, or of kept numbers of broken keys.

@@ -2,23 +2,18 @@
 //! that it can be counted. Child rows of a broken key are not there in reached areas.
 
 use super::broken_by;
-use super::broken_keys_seen::Seen;
+use super::by_outcome::ByOutcome;
 use super::origins::Origin::{self, Damaged, Filled, Reached};
+use super::origins::ANY;
+use super::seen::{Seen, Situation};
 use super::trace::Step;
+use super::watched::OfList;
 use crate::model::area::Area;
 use crate::model::change::Kind;
 use crate::model::form::Call;
 use crate::model::keys::{empty, half_filled, unserved};
 use crate::model::schema::{Action, Key, Match, Row};
 use std::collections::BTreeSet;
-
-/// A name, the areas on which it is to be seen, and whether it is to be seen in a call.
-pub type Situation = (&'static str, &'static [Origin], fn(&Seen) -> bool);
-
-/// A name, the areas on which it is to be seen, and whether it is to be seen in a list.
-pub type OfList = (&'static str, &'static [Origin], fn(&Area) -> bool);
-
-const ANY: &[Origin] = &[Reached, Filled, Damaged];
 
 /// Where rows of the child table of a broken key can be.
 const WITH_CHILDREN: &[Origin] = &[Filled, Damaged];
@@ -185,13 +180,13 @@ const OWN: &[Situation] = &[
         },
     ),
     ("23 by kind 10 for a parent row", ANY, |s| {
-        s.searched(10) && s.own(Kind::Delete, |_, _| true)
+        s.search(10).is_some() && s.own(Kind::Delete, |_, _| true)
     }),
     ("23 by kind 11 for a parent row", ANY, |s| {
-        s.searched(11) && s.own(Kind::Update, |_, used| !used.by_child)
+        s.search(11).is_some() && s.own(Kind::Update, |_, used| !used.by_child)
     }),
     ("23 by kind 11 for a child row", WITH_CHILDREN, |s| {
-        s.searched(11) && s.own(Kind::Update, |_, used| used.by_child)
+        s.search(11).is_some() && s.own(Kind::Update, |_, used| used.by_child)
     }),
 ];
 
@@ -253,10 +248,10 @@ const ORDER: &[Situation] = &[
         s.both_due(23, 16) && s.both_due(23, 17)
     }),
     ("18 before an action's 23", ANY, |s| {
-        s.code == 18 && s.without_restrict == 23
+        s.code == 18 && s.code_without_restrict() == 23
     }),
     ("an action's 23 before 18", ANY, |s| {
-        s.refused(23).map_or(false, |step| step.depth > 1) && s.without_broken == 18
+        s.refused(23).map_or(false, |step| step.depth > 1) && s.code_without_broken() == 18
     }),
 ];
 
@@ -292,7 +287,7 @@ const KEPT: &[Situation] = &[
 ];
 
 /// Orphan lists. A row would be listed if its broken key was whole.
-const LISTS: &[OfList] = &[
+pub const OF_LISTS: &[OfList] = &[
     ("rows of a broken key not listed", WITH_CHILDREN, |area| {
         any_unserved(area, |_, _| true)
     }),
@@ -311,32 +306,16 @@ const LISTS: &[OfList] = &[
     }),
 ];
 
-/// The situations of calls.
-pub const SITUATIONS: [&[Situation]; 7] = [ACCEPTED, ROLLBACKS, BREAKS, OWN, ACTIONS, ORDER, KEPT];
+pub const SITUATIONS: ByOutcome<Situation> = ByOutcome {
+    statements: &[ACCEPTED],
+    rollbacks: &[ROLLBACKS],
+    refused: &[BREAKS, OWN, ACTIONS, ORDER, KEPT],
+};
 
-/// The situations of lists.
-pub const OF_LISTS: &[OfList] = LISTS;
-
-/// The names of the situations that a call shows.
-pub fn shown<'s>(seen: &'s Seen) -> impl Iterator<Item = &'static str> + 's {
-    let situations = match (seen.code, seen.call) {
-        (0, Call::RollbackTo(_) | Call::Rollback) => &SITUATIONS[1..2],
-        (0, Call::Insert(..) | Call::Update(..) | Call::Delete(..) | Call::Search(_)) => {
-            &SITUATIONS[..1]
-        }
-        (0, _) => &[],
-        _ => &SITUATIONS[2..],
-    };
-    let shown = situations.iter().copied().flatten();
-    shown
-        .filter(|situation| seen.schema.any_broken() && (situation.2)(seen))
-        .map(|situation| situation.0)
-}
-
-/// The names of the situations that a list on this area shows.
-pub fn shown_by_list<'s>(area: &'s Area) -> impl Iterator<Item = &'static str> + 's {
-    let shown = LISTS.iter().filter(|situation| (situation.2)(area));
-    shown.map(|situation| situation.0)
+/// The names of the situations that a call shows: none where no key is broken.
+pub fn shown(seen: &Seen) -> Vec<&'static str> {
+    let situations = SITUATIONS.of(seen.code, seen.call);
+    seen.shown(situations.filter(|_| seen.schema.any_broken()))
 }
 
 /// Whether a live row that no parent serves, with such a child key, belongs to a broken key.
@@ -382,18 +361,10 @@ impl Seen<'_> {
         self.is_child(table) || self.is_parent(table)
     }
 
-    fn any_step(&self, is: impl Fn(&Step) -> bool) -> bool {
-        self.steps.iter().any(is)
-    }
-
-    /// Whether it is a call of kind 10 or 11.
-    fn searched(&self, kind: i64) -> bool {
-        matches!(self.call, Call::Search(search) if search.set.is_some() == (kind == 11))
-    }
-
-    /// Whether it is a call of this kind on such a table.
+    /// Whether it is a search of this kind in such a table.
     fn found_by(&self, kind: i64, such: fn(&Self, usize) -> bool) -> bool {
-        self.searched(kind) && matches!(self.call, Call::Search(search) if such(self, search.table))
+        let search = self.search(kind);
+        search.map_or(false, |search| such(self, search.table))
     }
 
     /// Whether a row of these tables is so before the call and after it.
@@ -402,11 +373,10 @@ impl Seen<'_> {
         tables: impl Iterator<Item = usize>,
         such: fn(&Option<Row>, &Option<Row>) -> bool,
     ) -> bool {
-        let of = |area: &Area, table, row| area.row(table, row);
         let mut tables = tables.filter(|&table| table < self.schema.tables.len());
         tables.any(|table| {
             let mut rows = 0..self.schema.tables[table].rows;
-            rows.any(|row| such(&of(self.before, table, row), &of(self.after, table, row)))
+            rows.any(|row| such(&self.before.row(table, row), &self.after.row(table, row)))
         })
     }
 
@@ -441,12 +411,6 @@ impl Seen<'_> {
         self.refused(23).map_or(false, so)
     }
 
-    /// Whether the first is given where the second is due too.
-    fn both_due(&self, given: i64, other: i64) -> bool {
-        let step = self.refused(given);
-        step.map_or(false, |step| step.due.contains(&other))
-    }
-
     /// Whether such a key has a kept number that is not 0 before the call.
     fn any_kept(&self, such: fn(&Key) -> bool) -> bool {
         let mut kept = self.schema.keys.iter().zip(self.before.kept());
@@ -456,7 +420,7 @@ impl Seen<'_> {
     /// Whether such a key that cannot wait comes to have a kept number that is not 0.
     fn unsettled(&self, such: fn(&Key) -> bool) -> bool {
         let waits = |key: &Key| key.deferred && self.before.in_transaction();
-        let mut kept = self.schema.keys.iter().zip(&self.kept);
-        kept.any(|(key, &number)| number != 0 && !waits(key) && such(key))
+        let mut kept = self.schema.keys.iter().zip(self.kept_after());
+        kept.any(|(key, number)| number != 0 && !waits(key) && such(key))
     }
 }

@@ -32,29 +32,21 @@ impl ChildRows {
         }
     }
 
-    /// A few calls on one schema, and beside them the same on damaged copies of the area.
+    /// A few calls on one schema, and before each the same on a damaged copy of the area.
     pub fn trial(&mut self, engine: &dyn Engine, r: &mut Random) -> Outcome {
         let (ground, mut area, origin) = start(r);
         for _ in 0..TURNS {
             let call = calls::leading_to_actions(r, &ground, &area);
             let damaged = damages::damaged_rows(r, &ground, &area);
-            self.call(engine, (&ground.bytes, &damaged, &call), Origin::Damaged)?;
-            area = self.call(engine, (&ground.bytes, &area, &call), origin)?;
+            for (words, origin) in [(damaged, Origin::Damaged), (area.clone(), origin)] {
+                let input = (&ground.bytes[..], &words[..], &call[..]);
+                let (answer, after) = compared::call(engine, &self.model, input)?;
+                self.calls.add(answer.code);
+                self.walks.count(input, answer, origin);
+                area = after;
+            }
         }
         Ok(())
-    }
-
-    /// Compares a call. Gives the area after it.
-    fn call(
-        &mut self,
-        engine: &dyn Engine,
-        input: (&[u8], &[i64], &[i64]),
-        origin: Origin,
-    ) -> Result<Vec<i64>, String> {
-        let (answer, after) = compared::call(engine, &self.model, input)?;
-        self.calls.add(answer.code);
-        self.walks.count(input, answer, origin);
-        Ok(after)
     }
 }
 

@@ -4,11 +4,14 @@ use crate::differences::of_call;
 use crate::engine::{Answer, Engine};
 use crate::model::Model;
 
+/// Schema, area and call.
+pub type Input<'a> = (&'a [u8], &'a [i64], &'a [i64]);
+
 /// The answer to the call and the area after it, or what is printed of a difference.
 pub fn call(
     engine: &dyn Engine,
     model: &Model,
-    (schema, area, call): (&[u8], &[i64], &[i64]),
+    (schema, area, call): Input,
 ) -> Result<(Answer, Vec<i64>), String> {
     let (mut found_words, mut expected_words) = (area.to_vec(), area.to_vec());
     let found = engine.call(schema, &mut found_words, call);

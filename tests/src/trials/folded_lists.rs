@@ -2,17 +2,13 @@
 //! counted.
 
 use super::folded_seen::{differ_in, has_parent, parent_keys, same_letters};
-use super::origins::Origin::{self, Damaged, Filled, Reached};
+use super::origins::ANY;
+use super::watched::OfList;
 use crate::model::area::Area;
 use crate::model::keys::full;
 use crate::model::schema::{Key, Row, Value};
 
-const ANY: &[Origin] = &[Reached, Filled, Damaged];
-
-/// A name, the areas on which it is to be seen, and whether it is to be seen in an orphan list.
-pub type Situation = (&'static str, &'static [Origin], fn(&Area) -> bool);
-
-pub const SITUATIONS: &[Situation] = &[
+pub const SITUATIONS: &[OfList] = &[
     ("not listed for a parent in another spelling", ANY, |area| {
         any_child(area, |key, child, parents| {
             has_parent(key, child, parents) && !parents.contains(child)
@@ -35,12 +31,6 @@ pub const SITUATIONS: &[Situation] = &[
         })
     }),
 ];
-
-/// The names of the situations that a list on this area shows.
-pub fn shown(area: &Area) -> Vec<&'static str> {
-    let shown = SITUATIONS.iter().filter(|situation| (situation.2)(area));
-    shown.map(|situation| situation.0).collect()
-}
 
 /// Whether a live child row of an unbroken key with no NULL in its key stands so to the parents.
 fn any_child(area: &Area, such: fn(&Key, &Row, &[Row]) -> bool) -> bool {

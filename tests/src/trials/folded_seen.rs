@@ -1,29 +1,14 @@
-//! A call as it is observed for folded columns: its row changes and actions, and which rows have
-//! parents in other spellings.
+//! What is asked of a call on folded columns: which rows have parents, or unique keys, in other
+//! spellings.
 
-use super::trace::{Fired, Step, Trace};
-use super::watched::Made;
+use super::seen::Seen;
+use super::trace::Step;
 use crate::model::area::Area;
 use crate::model::change::Kind;
 use crate::model::folding::{compared, folded};
 use crate::model::form::Call;
 use crate::model::keys::{equal, full, having, maps};
-use crate::model::rules::Rules;
-use crate::model::schema::{Action, Key, Row, Schema, Table, Value};
-use crate::model::search::Search;
-
-/// A call that was observed.
-pub struct Seen<'a> {
-    pub schema: &'a Schema,
-    pub call: &'a Call,
-    pub code: i64,
-    pub before: &'a Area<'a>,
-    /// The area after the call; after the row changes that were made, where it is refused inside a
-    /// statement.
-    pub after: Area<'a>,
-    pub steps: Vec<Step>,
-    pub fired: Vec<Fired>,
-}
+use crate::model::schema::{Action, Key, Row, Table, Value};
 
 /// Whether two values differ as typed and are equal without regard to capitals.
 pub fn respelled(one: Value, other: Value) -> bool {
@@ -78,38 +63,8 @@ fn unique_values(table: &Table, unique: &[usize], row: &Row) -> Row {
 }
 
 impl<'a> Seen<'a> {
-    pub fn new(rules: &Rules, made: &'a Made<'a>) -> Seen<'a> {
-        let mut after = made.after.clone();
-        let (mut steps, mut fired) = (Vec::new(), Vec::new());
-        if matches!(made.code, 0 | 14..=20 | 23 | 24) {
-            let mut area = made.before.clone();
-            let trace = Trace::new(rules, &mut area, &made.call);
-            (steps, fired) = (trace.steps, trace.fired);
-            if made.code != 0 {
-                after = area;
-            }
-        }
-        Seen {
-            schema: made.before.schema,
-            call: &made.call,
-            code: made.code,
-            before: &made.before,
-            after,
-            steps,
-            fired,
-        }
-    }
-
     fn whole_keys(&self) -> impl Iterator<Item = &'a Key> {
         self.schema.keys.iter().filter(|key| !key.broken)
-    }
-
-    /// The search, if the call is of this kind.
-    pub fn search(&self, kind: i64) -> Option<&'a Search> {
-        match self.call {
-            Call::Search(search) if search.set.is_some() == (kind == 11) => Some(search),
-            _ => None,
-        }
     }
 
     /// Whether a search of either kind passes over a live row, or finds one, that has such a value
@@ -128,11 +83,9 @@ impl<'a> Seen<'a> {
         })
     }
 
-    /// The child keys, as typed, of the rows that the statement wrote and that are there after it.
-    fn written(&self, key: &'a Key) -> impl Iterator<Item = Row> + '_ {
-        let steps = self.steps.iter().filter(|step| step.table == key.child);
-        let rows = steps.filter_map(|step| self.after.row(step.table, step.row));
-        rows.map(|row| key.child_key(&row))
+    /// The child keys, as typed, of the rows that were written.
+    fn written_keys(&self, key: &'a Key) -> impl Iterator<Item = Row> + '_ {
+        self.written(key.child).map(|row| key.child_key(&row))
     }
 
     /// Whether a row that was written has such a parent in another spelling: the foreign key, the
@@ -140,7 +93,7 @@ impl<'a> Seen<'a> {
     pub fn served(&self, such: impl Fn(&Key, &Row, &Row) -> bool) -> bool {
         self.whole_keys().any(|key| {
             let parents = parent_keys(&self.after, key);
-            self.written(key).any(|child| {
+            self.written_keys(key).any(|child| {
                 let mut parents = parents.iter();
                 parents.any(|parent| otherwise(key, &child, parent) && such(key, &child, parent))
             })
@@ -152,7 +105,7 @@ impl<'a> Seen<'a> {
     pub fn unserved(&self, such: impl Fn(&Key, &Row, &Row) -> bool) -> bool {
         self.whole_keys().any(|key| {
             let parents = parent_keys(&self.after, key);
-            self.written(key).filter(full).any(|child| {
+            self.written_keys(key).filter(full).any(|child| {
                 !has_parent(key, &child, &parents)
                     && parents.iter().any(|parent| such(key, &child, parent))
             })
@@ -196,12 +149,6 @@ impl<'a> Seen<'a> {
         pairs.any(|(step, key)| key.parent == step.table && is_so(step, key))
     }
 
-    /// Whether actions of a key followed that are so.
-    pub fn any_fired(&self, such: impl Fn(&Key, &Fired) -> bool) -> bool {
-        let mut fired = self.fired.iter();
-        fired.any(|fired| such(&self.schema.keys[fired.key], fired))
-    }
-
     /// Whether the action, upon a deletion or an update, finds a child row in another spelling.
     pub fn takes(&self, action: Action, deletion: bool) -> bool {
         self.any_fired(|key, fired| {
@@ -213,7 +160,7 @@ impl<'a> Seen<'a> {
     }
 
     /// Whether a child row without a parent comes to have one in another spelling that was written.
-    pub fn mended(&self) -> bool {
+    pub fn mended_by_spelling(&self) -> bool {
         let written = |key: &&Key, step: &&Step| key.parent == step.table && step.new.is_some();
         self.whole_keys().any(|key| {
             let steps = self.steps.iter().filter(|step| written(&key, step));
@@ -229,12 +176,6 @@ impl<'a> Seen<'a> {
                 })
             })
         })
-    }
-
-    /// The row change that is refused by 17, if the call is.
-    pub fn refused_by_17(&self) -> Option<&Step> {
-        let last = self.steps.last();
-        last.filter(|_| self.code == 17)
     }
 
     /// Whether a row change stands so to another live row by a unique key: the table, the unique key,
@@ -260,7 +201,7 @@ impl<'a> Seen<'a> {
 
     /// Whether 17 is for another row whose unique key is equal and spelled otherwise, and is so.
     pub fn unique_otherwise(&self, such: impl Fn(&Table, &[usize], (&Row, &Row)) -> bool) -> bool {
-        self.refused_by_17().map_or(false, |step| {
+        self.refused(17).map_or(false, |step| {
             self.beside_unique(step, |table, unique, (new, other)| {
                 let values = |row| unique_values(table, unique, row);
                 let typed = unique.iter().any(|&column| new[column] != other[column]);

@@ -1,29 +1,26 @@
 //! What there is to see in calls on schemas with folded columns, by name, so that it can be counted.
 
-use super::folded_seen::{differ_in, otherwise, respelled, same_letters, Seen};
-use super::origins::Origin::{self, Damaged, Filled, Reached};
+use super::by_outcome::ByOutcome;
+use super::folded_seen::{differ_in, otherwise, respelled, same_letters};
+use super::origins::Origin::{Damaged, Reached};
+use super::origins::ANY;
+use super::seen::{Seen, Situation};
 use super::trace::{Fired, Step};
 use crate::model::change::Kind;
 use crate::model::folding::{folded, Mark};
-use crate::model::form::Call;
 use crate::model::schema::{mark_of, Action, Key, Row, Table, Value};
-
-/// A name, the areas on which it is to be seen, and whether it is to be seen in a call.
-pub type Situation = (&'static str, &'static [Origin], fn(&Seen) -> bool);
-
-const ANY: &[Origin] = &[Reached, Filled, Damaged];
 
 /// Child rows that are written, and their parents.
 const CHILDREN: &[Situation] = &[
     (
         "parent in another spelling, both columns folded",
         ANY,
-        |s| s.served(|key, child, parent| s.any_pair(key, child, parent, |own| own.is_some())),
+        |s| s.served_in_folded_pair(|own| own.is_some()),
     ),
     (
         "parent in another spelling, its column alone folded",
         ANY,
-        |s| s.served(|key, child, parent| s.any_pair(key, child, parent, |own| own.is_none())),
+        |s| s.served_in_folded_pair(|own| own.is_none()),
     ),
     (
         "orphan for its spelling, its column alone folded",
@@ -74,7 +71,7 @@ const CHILDREN: &[Situation] = &[
     ("orphan for C1 and E1", ANY, |s| s.orphan_for(0xC1)),
     ("orphan for DA and FA", ANY, |s| s.orphan_for(0xDA)),
     ("mended by a parent in another spelling", ANY, |s| {
-        s.mended()
+        s.mended_by_spelling()
     }),
 ];
 
@@ -281,10 +278,16 @@ const REFUSED: &[Situation] = &[
     }),
 ];
 
-/// The situations of accepted statements, of accepted rollbacks, and of refused calls.
-pub const SITUATIONS: [&[Situation]; 7] = [
-    CHILDREN, UNIQUE, SEARCHES, RESPELLED, ACTIONS, ROLLBACKS, REFUSED,
-];
+pub const SITUATIONS: ByOutcome<Situation> = ByOutcome {
+    statements: &[CHILDREN, UNIQUE, SEARCHES, RESPELLED, ACTIONS],
+    rollbacks: &[ROLLBACKS],
+    refused: &[REFUSED],
+};
+
+/// The names of the situations that a call shows.
+pub fn shown(seen: &Seen) -> Vec<&'static str> {
+    seen.shown(SITUATIONS.of(seen.code, seen.call))
+}
 
 /// Whether two keys differ in the spelling of a pair of such a mark.
 fn spelled_in(key: &Key, child: &Row, parent: &Row, is: fn(Mark) -> bool) -> bool {
@@ -304,33 +307,15 @@ fn differ_in_highest(one: Value, other: Value) -> bool {
 }
 
 impl Seen<'_> {
-    /// The names of the situations that the call shows.
-    pub fn shown(&self) -> impl Iterator<Item = &'static str> + '_ {
-        let situations = match (self.code, self.call) {
-            (0, Call::RollbackTo(_) | Call::Rollback) => &SITUATIONS[5..6],
-            (0, Call::Insert(..) | Call::Update(..) | Call::Delete(..) | Call::Search(_)) => {
-                &SITUATIONS[..5]
-            }
-            (0, _) => &[],
-            _ => &SITUATIONS[6..],
-        };
-        let shown = situations.iter().copied().flatten();
-        shown
-            .filter(|situation| (situation.2)(self))
-            .map(|situation| situation.0)
-    }
-
-    fn any_step(&self, such: fn(&Step) -> bool) -> bool {
-        self.steps.iter().any(such)
-    }
-
-    /// Whether a child key and a parent key differ in the spelling of a folded pair, the child column
-    /// of which has such a mark.
-    fn any_pair(&self, key: &Key, child: &Row, parent: &Row, own: fn(Mark) -> bool) -> bool {
-        let mut pairs = (0..child.len()).filter(|&pair| key.marks[pair].is_some());
-        pairs.any(|pair| {
-            let mark = mark_of(&self.schema.tables, key.child, key.child_columns[pair]);
-            respelled(child[pair], parent[pair]) && own(mark)
+    /// Whether a row that was written has a parent in another spelling of a folded pair, the child
+    /// column of which has such a mark.
+    fn served_in_folded_pair(&self, own: fn(Mark) -> bool) -> bool {
+        self.served(|key, child, parent| {
+            let mut pairs = (0..child.len()).filter(|&pair| key.marks[pair].is_some());
+            pairs.any(|pair| {
+                let mark = mark_of(&self.schema.tables, key.child, key.child_columns[pair]);
+                respelled(child[pair], parent[pair]) && own(mark)
+            })
         })
     }
 
@@ -414,6 +399,6 @@ impl Seen<'_> {
 
     /// Whether such a row change is refused by 17 for a unique key in another spelling.
     fn refused_17(&self, such: fn(&Step) -> bool) -> bool {
-        self.refused_by_17().map_or(false, such) && self.unique_otherwise(|_: &Table, _, _| true)
+        self.refused(17).map_or(false, such) && self.unique_otherwise(|_: &Table, _, _| true)
     }
 }

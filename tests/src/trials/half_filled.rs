@@ -2,10 +2,9 @@
 
 use super::half_filled_seen::OfKey;
 use super::half_filled_situations::Seen;
-use super::origins::Origin;
 use super::trace::Trace;
 use super::watched::{Made, Sort, Start};
-use crate::inputs::{damages, half_filled, half_filled_calls};
+use crate::inputs::{damages, half_filled, half_filled_calls, populated};
 use crate::model::rules::Rules;
 use crate::random::Random;
 
@@ -13,22 +12,17 @@ pub const SORT: Sort = Sort {
     start,
     damaged: damages::mostly_rows,
     shown,
-    shown_by_list: |_| Vec::new(),
+    of_lists: &[],
 };
 
 fn start(r: &mut Random) -> Start {
     let ground = half_filled::ground(r);
-    let (area, origin) = if r.once_in(3) {
-        (half_filled::filled(r, &ground), Origin::Filled)
-    } else {
-        (half_filled::reached(r, &ground), Origin::Reached)
-    };
-    Start {
-        ground,
-        area,
-        origin,
-        call: half_filled_calls::any,
+    if r.once_in(3) {
+        let area = populated::filled(r, &ground, &half_filled::row);
+        return Start::filled(ground, area, half_filled_calls::any);
     }
+    let area = populated::reached_with_level(r, &ground, 2, &half_filled::row);
+    Start::reached(ground, area, half_filled_calls::any)
 }
 
 /// What a call shows that is accepted or refused by 19 to 21.

@@ -1,8 +1,10 @@
 //! What there is to see in calls on rows with half-filled child keys, by name, so that it can be
 //! counted.
 
+use super::by_outcome::ByOutcome;
 use super::half_filled_seen::{Child, OfKey, State::*};
-use super::origins::Origin::{self, Damaged, Filled, Reached};
+use super::origins::Origin::{self, Damaged, Filled};
+use super::origins::ANY;
 use crate::model::form::Call;
 use crate::model::keys::{equal_where_filled, full};
 use crate::model::schema::{Action, Match, Row};
@@ -17,8 +19,6 @@ pub struct Seen<'a> {
 
 /// A name, the areas on which it is to be seen, and whether it is to be seen in a call.
 pub type Situation = (&'static str, &'static [Origin], fn(&Seen) -> bool);
-
-const ANY: &[Origin] = &[Reached, Filled, Damaged];
 
 /// Rows come to have a half-filled or an empty key, or have one no more.
 const ENTERED: &[Situation] = &[
@@ -182,21 +182,16 @@ const REFUSED: &[Situation] = &[
     }),
 ];
 
-/// The situations of accepted statements, of accepted rollbacks, and of refused calls.
-pub const SITUATIONS: [&[Situation]; 6] = [ENTERED, FORMS, PARENTS, ACTIONS, ROLLBACKS, REFUSED];
+pub const SITUATIONS: ByOutcome<Situation> = ByOutcome {
+    statements: &[ENTERED, FORMS, PARENTS, ACTIONS],
+    rollbacks: &[ROLLBACKS],
+    refused: &[REFUSED],
+};
 
 impl Seen<'_> {
     /// The names of the situations that the call shows.
     pub fn shown(&self) -> impl Iterator<Item = &'static str> + '_ {
-        let situations = match (self.code, self.call) {
-            (0, Call::RollbackTo(_) | Call::Rollback) => &SITUATIONS[4..5],
-            (0, Call::Insert(..) | Call::Update(..) | Call::Delete(..) | Call::Search(_)) => {
-                &SITUATIONS[..4]
-            }
-            (0, _) => &[],
-            _ => &SITUATIONS[5..],
-        };
-        let shown = situations.iter().copied().flatten();
+        let shown = SITUATIONS.of(self.code, self.call);
         shown
             .filter(|situation| (situation.2)(self))
             .map(|situation| situation.0)

@@ -1,6 +1,6 @@
 //! Single operations: an engine against the model, answer, every word and every record.
 
-use super::compared;
+use super::compared::{self, Input};
 use super::lent_list::LentLists;
 use super::origins::Origin;
 use super::searches::Searches;
@@ -81,12 +81,12 @@ impl Operations {
     fn call(
         &mut self,
         engine: &dyn Engine,
-        (schema, area, call): (&[u8], &[i64], &[i64]),
+        input: Input,
         origin: Origin,
     ) -> Result<Vec<i64>, String> {
-        let (answer, after) = compared::call(engine, &self.model, (schema, area, call))?;
+        let (answer, after) = compared::call(engine, &self.model, input)?;
         self.calls.add(answer.code);
-        self.searches.count((schema, area, call), answer, origin);
+        self.searches.count(input, answer, origin);
         Ok(after)
     }
 

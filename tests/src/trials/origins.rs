@@ -8,6 +8,9 @@ pub enum Origin {
     Damaged,
 }
 
+/// Every origin.
+pub const ANY: &[Origin] = &[Origin::Reached, Origin::Filled, Origin::Damaged];
+
 /// The origins with their names.
 pub const ORIGINS: &[(&str, Origin)] = &[
     ("reached areas", Origin::Reached),

@@ -1,6 +1,7 @@
 //! What there is to see in one statement for many rows, by name, so that it can be counted.
 
 use super::origins::Origin::{self, Damaged, Filled, Reached};
+use super::origins::ANY;
 use crate::model::area::Area;
 use crate::model::rules::Rules;
 use crate::model::schema::{Row, Value};
@@ -32,8 +33,6 @@ struct Turn {
 
 /// A name, the areas on which it is to be seen, and whether it is to be seen in a statement.
 pub type Situation = (&'static str, &'static [Origin], fn(&Seen) -> bool);
-
-const ANY: &[Origin] = &[Reached, Filled, Damaged];
 
 pub const SITUATIONS: &[Situation] = &[
     ("no row met", ANY, |s| s.met() == 0),

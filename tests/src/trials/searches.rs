@@ -1,6 +1,7 @@
 //! Calls of kinds 10 and 11, counted: by code, by rows changed, by what their words break, and by
 //! what is to be seen in them.
 
+use super::compared::Input;
 use super::origins::Origin;
 use super::search_situations;
 use crate::counts::Counts;
@@ -64,12 +65,7 @@ impl Searches {
     }
 
     /// Counts a call, if it is one of these kinds, with the answer to it.
-    pub fn count(
-        &mut self,
-        (schema, area, call): (&[u8], &[i64], &[i64]),
-        answer: Answer,
-        origin: Origin,
-    ) {
+    pub fn count(&mut self, (schema, area, call): Input, answer: Answer, origin: Origin) {
         if !is_search(call) {
             return;
         }

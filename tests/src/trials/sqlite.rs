@@ -11,9 +11,10 @@
 //! SQLite lists orphans in a sequence of its own: they are sorted, and the engine's are taken as
 //! they come.
 
-use super::folded_seen::Seen;
+use super::folded_situations;
 use super::origins::Origin;
 use super::searches::{how_many, is_search};
+use super::seen::Seen;
 use super::walks::Walks;
 use super::watched;
 use super::{sqlite_names, sqlite_statements};
@@ -209,8 +210,8 @@ impl Alike {
             return true;
         }
         self.of_names += 1;
-        let seen = Seen::new(rules, &made);
-        seen.shown().for_each(|name| self.spellings.add(name));
+        let shown = folded_situations::shown(&Seen::new(rules, &made));
+        shown.into_iter().for_each(|name| self.spellings.add(name));
         false
     }
 

@@ -83,7 +83,8 @@ impl<'r> Trace<'r> {
     }
 
     fn change(&mut self, area: &mut Area, change: &Change, action: Option<Action>) -> Outcome {
-        let failing = self.rules.checks.iter().filter(|c| !(c.1)(area, change));
+        let rules = self.rules;
+        let failing = rules.checks.iter().filter(|c| !(c.1)(rules, area, change));
         self.steps.push(Step {
             depth: change.depth,
             table: change.table,

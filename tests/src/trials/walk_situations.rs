@@ -2,6 +2,7 @@
 //! counted.
 
 use super::origins::Origin::{self, Damaged, Filled, Reached};
+use super::origins::ANY;
 use crate::model::area::Area;
 use crate::model::keys::full;
 use crate::model::schema::{Row, Value};
@@ -36,8 +37,6 @@ struct Turn {
 
 /// A name, the areas on which it is to be seen, and whether it is to be seen in a walk.
 pub type Situation = (&'static str, &'static [Origin], fn(&Seen) -> bool);
-
-const ANY: &[Origin] = &[Reached, Filled, Damaged];
 
 /// Rows are taken.
 const TAKEN: &[Situation] = &[

@@ -1,6 +1,7 @@
 //! The walks of actions over child rows, observed in the model and counted by what is to be seen in
 //! them.
 
+use super::compared::Input;
 use super::origins::Origin;
 use super::walk_situations::Seen;
 use crate::counts::Counts;
@@ -35,12 +36,7 @@ impl Walks {
 
     /// Counts what a call shows, given the answer to it: one that is accepted, or that is refused
     /// inside the statement.
-    pub fn count(
-        &mut self,
-        (schema, area, call): (&[u8], &[i64], &[i64]),
-        answer: Answer,
-        origin: Origin,
-    ) {
+    pub fn count(&mut self, (schema, area, call): Input, answer: Answer, origin: Origin) {
         let changes_rows = call.len() == 12 && matches!(call[0], 2 | 3 | 10 | 11);
         if !changes_rows || !matches!(answer.code, 0 | 14..=18 | 23 | 24) {
             return;

@@ -23,17 +23,40 @@ pub struct Sort {
     pub start: fn(&mut Random) -> Start,
     pub damaged: fn(&mut Random, &Ground, &[i64]) -> Vec<i64>,
     pub shown: fn(&Rules, &Made) -> Vec<&'static str>,
-    /// What an accepted list of this area shows.
-    pub shown_by_list: fn(&Area) -> Vec<&'static str>,
+    /// What accepted orphan lists can show.
+    pub of_lists: &'static [OfList],
 }
 
-/// A schema, an area of it, where that comes from, and how a well-formed call is made that suits an
-/// area.
+/// A name, the areas on which it is to be seen, and whether an orphan list of an area shows it.
+pub type OfList = (&'static str, &'static [Origin], fn(&Area) -> bool);
+
+/// Makes a well-formed call that suits an area.
+type MakeCall = fn(&mut Random, &Ground, &[i64]) -> Vec<i64>;
+
+/// A schema, an area of it, where that comes from, and how a call is made.
 pub struct Start {
-    pub ground: Ground,
-    pub area: Vec<i64>,
-    pub origin: Origin,
-    pub call: fn(&mut Random, &Ground, &[i64]) -> Vec<i64>,
+    ground: Ground,
+    area: Vec<i64>,
+    origin: Origin,
+    call: MakeCall,
+}
+
+impl Start {
+    pub fn reached(ground: Ground, area: Vec<i64>, call: MakeCall) -> Start {
+        Start {
+            ground,
+            area,
+            origin: Origin::Reached,
+            call,
+        }
+    }
+
+    pub fn filled(ground: Ground, area: Vec<i64>, call: MakeCall) -> Start {
+        Start {
+            origin: Origin::Filled,
+            ..Start::reached(ground, area, call)
+        }
+    }
 }
 
 /// A call that was compared, its code, and the area before it and after it.
@@ -116,8 +139,9 @@ impl Watched {
         if r.once_in(4) {
             let compared = self.lists.compare(engine, r, &ground.bytes, area)?;
             if compared.code == 0 {
-                let shown = (self.sort.shown_by_list)(&ground.area(area));
-                self.count(origin, shown);
+                let area = ground.area(area);
+                let shown = self.sort.of_lists.iter().filter(|list| (list.2)(&area));
+                self.count(origin, shown.map(|list| list.0).collect());
             }
         }
         Ok(())

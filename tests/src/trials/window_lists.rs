@@ -1,18 +1,15 @@
 //! What there is to see in orphan lists on schemas with windowed keys, by name, so that it can be
 //! counted.
 
-use super::origins::Origin::{self, Damaged, Filled, Reached};
+use super::origins::Origin::{Damaged, Filled};
+use super::origins::ANY;
+use super::watched::OfList;
 use super::window_seen::{is_served, parent_keys, Pair};
 use crate::model::area::Area;
 use crate::model::keys::{full, half_filled, maps};
 use crate::model::schema::{Key, Match, Row};
 
-const ANY: &[Origin] = &[Reached, Filled, Damaged];
-
-/// A name, the areas on which it is to be seen, and whether it is to be seen in an orphan list.
-pub type Situation = (&'static str, &'static [Origin], fn(&Area) -> bool);
-
-pub const SITUATIONS: &[Situation] = &[
+pub const SITUATIONS: &[OfList] = &[
     ("not listed after the first day", ANY, |area| {
         any_pair(area, true, |pair| pair.day() > pair.first())
     }),
@@ -47,12 +44,6 @@ pub const SITUATIONS: &[Situation] = &[
         },
     ),
 ];
-
-/// The names of the situations that a list on this area shows.
-pub fn shown(area: &Area) -> Vec<&'static str> {
-    let shown = SITUATIONS.iter().filter(|situation| (situation.2)(area));
-    shown.map(|situation| situation.0).collect()
-}
 
 /// Whether a live child row of a windowed key that is not broken stands so to the parents.
 fn any_child(area: &Area, such: impl Fn(&Key, &Row, &[(usize, Row)]) -> bool) -> bool {

@@ -1,28 +1,12 @@
-//! A call as it is observed for windowed keys: its row changes and actions, the windows that are
-//! written, and which days lie in them.
+//! What is asked of a call on windowed keys: the windows that are written, and which days lie in
+//! them.
 
-use super::trace::{Fired, Step, Trace};
-use super::watched::Made;
+use super::seen::Seen;
+use super::trace::{Fired, Step};
 use crate::model::area::Area;
 use crate::model::change::Kind;
-use crate::model::form::Call;
 use crate::model::keys::{full, maps, row_maps};
-use crate::model::rules::Rules;
-use crate::model::schema::{Key, Row, Schema, Value};
-use crate::model::search::Search;
-
-/// A call that was observed.
-pub struct Seen<'a> {
-    pub schema: &'a Schema,
-    pub call: &'a Call,
-    pub code: i64,
-    pub before: &'a Area<'a>,
-    /// The area after the call; after the row changes that were made, where it is refused inside a
-    /// statement.
-    pub after: Area<'a>,
-    pub steps: Vec<Step>,
-    pub fired: Vec<Fired>,
-}
+use crate::model::schema::{Key, Row, Value};
 
 /// A child key and a parent key of a windowed key, both as they are compared.
 pub struct Pair<'k> {
@@ -78,28 +62,6 @@ pub fn is_served(key: &Key, child: &Row, parents: &[(usize, Row)]) -> bool {
 }
 
 impl<'a> Seen<'a> {
-    pub fn new(rules: &Rules, made: &'a Made<'a>) -> Seen<'a> {
-        let mut after = made.after.clone();
-        let (mut steps, mut fired) = (Vec::new(), Vec::new());
-        if matches!(made.code, 0 | 14..=20 | 23 | 24) {
-            let mut area = made.before.clone();
-            let trace = Trace::new(rules, &mut area, &made.call);
-            (steps, fired) = (trace.steps, trace.fired);
-            if made.code != 0 {
-                after = area;
-            }
-        }
-        Seen {
-            schema: made.before.schema,
-            call: &made.call,
-            code: made.code,
-            before: &made.before,
-            after,
-            steps,
-            fired,
-        }
-    }
-
     /// The windowed keys that are not broken.
     pub fn windowed(&self) -> impl Iterator<Item = &'a Key> {
         let keys = self.schema.keys.iter();
@@ -109,9 +71,8 @@ impl<'a> Seen<'a> {
     /// Whether a child row that was written, and is there after it, stands so to the parents.
     pub fn any_child(&self, such: impl Fn(&Key, &Row, &[(usize, Row)]) -> bool) -> bool {
         self.windowed().any(|key| {
-            let steps = self.steps.iter().filter(|step| step.table == key.child);
-            let rows = steps.filter_map(|step| self.after.row(step.table, step.row));
             let parents = parent_keys(&self.after, key);
+            let rows = self.written(key.child);
             let mut children = rows.map(|row| key.compared(&key.child_key(&row)));
             children.any(|child| such(key, &child, &parents))
         })
@@ -166,18 +127,14 @@ impl<'a> Seen<'a> {
 
     /// Whether an update or, without one, a deletion of a parent row took child rows of a windowed key
     /// in such a way.
-    pub fn any_fired(&self, such: impl Fn(&Key, &Fired) -> bool) -> bool {
-        let mut fired = self.fired.iter();
-        fired.any(|fired| {
-            let key = &self.schema.keys[fired.key];
-            key.window.is_some() && such(key, fired)
-        })
+    pub fn any_fired_of_window(&self, such: impl Fn(&Key, &Fired) -> bool) -> bool {
+        self.any_fired(|key, fired| key.window.is_some() && such(key, fired))
     }
 
     /// The same for a row change after which keys and rows taken are so: the old and the new parent
     /// key, and the child keys, all as they are compared.
     pub fn updates(&self, such: impl Fn(&Key, (&Row, &Row), &[Row]) -> bool) -> bool {
-        self.any_fired(|key, fired| {
+        self.any_fired_of_window(|key, fired| {
             let new = match &fired.new_key {
                 Some(new) => key.compared(new),
                 None => return false,
@@ -190,7 +147,7 @@ impl<'a> Seen<'a> {
 
     /// Whether a child row that was not served is so after the call, by a parent row that is so: that
     /// row before, if there was one, and after.
-    pub fn mended(&self, such: impl Fn(Option<&Row>, &Row) -> bool) -> bool {
+    pub fn mended_by_window(&self, such: impl Fn(Option<&Row>, &Row) -> bool) -> bool {
         self.code == 0
             && self.windowed().any(|key| {
                 let rows = self.before.live_rows(key.child).into_iter();
@@ -221,7 +178,7 @@ impl<'a> Seen<'a> {
 
     /// Whether a child row of a parent that it loses is served by another before and after.
     pub fn served_on(&self, deletion: bool) -> bool {
-        self.any_fired(|key, fired| {
+        self.any_fired_of_window(|key, fired| {
             let parents = parent_keys(&self.after, key);
             let mut found = fired.found.iter().map(|(child, _)| key.compared(child));
             let new = fired.new_key.as_ref().map(|new| key.compared(new));
@@ -240,18 +197,10 @@ impl<'a> Seen<'a> {
         first.is_some() && places.any(|place| Some(place) == first)
     }
 
-    /// The search, if the call is of this kind.
-    pub fn search(&self, kind: i64) -> Option<&'a Search> {
-        match self.call {
-            Call::Search(search) if search.set.is_some() == (kind == 11) => Some(search),
-            _ => None,
-        }
-    }
-
     /// Whether a row of a windowed key's parent, or child, was changed in this way.
-    pub fn any_step(&self, such: impl Fn(&Key, &Step) -> bool) -> bool {
+    pub fn any_step_of_window(&self, such: impl Fn(&Key, &Step) -> bool) -> bool {
         let mut keys = self.windowed();
-        keys.any(|key| self.steps.iter().any(|step| such(key, step)))
+        keys.any(|key| self.any_step(|step| such(key, step)))
     }
 
     /// Whether kind 11 sets this column of a windowed key's table and changes a row.
@@ -261,7 +210,7 @@ impl<'a> Seen<'a> {
             None => return false,
         };
         let column = search.set.map(|set| set.0);
-        self.any_step(|key, step| {
+        self.any_step_of_window(|key, step| {
             let (table, wanted) = place(key);
             step.kind == Kind::Update
                 && step.table == table

@@ -1,17 +1,14 @@
 //! What there is to see in calls on schemas with windowed keys, by name, so that it can be counted.
 
-use super::origins::Origin::{self, Damaged, Filled, Reached};
-use super::window_seen::{days, is_served, names, next, parent_keys, Pair, Seen};
+use super::origins::Origin::{self, Damaged, Filled};
+use super::origins::ANY;
+use super::seen::{Seen, Situation};
+use super::window_seen::{days, is_served, names, next, parent_keys, Pair};
 use crate::model::change::Kind;
 use crate::model::folding::folded;
 use crate::model::keys::{empty, full, maps, row_maps};
-use crate::model::schema::{mark_of, Action, Match, Row, Value};
+use crate::model::schema::{mark_of, Action, Key, Match, Row, Value};
 use crate::model::windows::share_a_day;
-
-/// A name, the areas on which it is to be seen, and whether it is to be seen in a call.
-pub type Situation = (&'static str, &'static [Origin], fn(&Seen) -> bool);
-
-const ANY: &[Origin] = &[Reached, Filled, Damaged];
 
 /// Areas in which windows can share days, or hold none.
 const MADE: &[Origin] = &[Filled, Damaged];
@@ -143,7 +140,7 @@ const REFUSED: &[Situation] = &[
     ("24 upon an insert", ANY, |s| s.refused_at(Kind::Insert)),
     ("24 upon an update", ANY, |s| s.refused_at(Kind::Update)),
     ("24 at an action's row", ANY, |s| {
-        s.code == 24 && s.steps.last().map_or(false, |step| step.action.is_some())
+        s.refused(24).map_or(false, |step| step.action.is_some())
     }),
     ("24 at a row of kind 11", ANY, |s| {
         s.code == 24 && s.search(11).is_some()
@@ -151,13 +148,13 @@ const REFUSED: &[Situation] = &[
     ("24 at a later row of kind 11", ANY, |s| {
         s.code == 24 && s.search(11).is_some() && s.steps.len() > 1
     }),
-    ("17 where 24 is due", ANY, |s| s.refused_where_24(17)),
-    ("16 where 24 is due", ANY, |s| s.refused_where_24(16)),
-    ("23 where 24 is due", ANY, |s| s.refused_where_24(23)),
-    ("15 where 24 is due", ANY, |s| s.refused_where_24(15)),
+    ("17 where 24 is due", ANY, |s| s.both_due(17, 24)),
+    ("16 where 24 is due", ANY, |s| s.both_due(16, 24)),
+    ("23 where 24 is due", ANY, |s| s.both_due(23, 24)),
+    ("15 where 24 is due", ANY, |s| s.both_due(15, 24)),
     ("24 where no value is altered", MADE, |s| {
-        let is_so = |step: &super::trace::Step| step.old == step.new && step.due == [24];
-        s.code == 24 && s.steps.last().map_or(false, is_so)
+        s.refused(24)
+            .map_or(false, |step| step.old == step.new && step.due == [24])
     }),
     ("24 beside the columns of the window", MADE, |s| {
         s.code == 24
@@ -270,7 +267,7 @@ const TAKEN: &[Situation] = &[
     }),
     ("RESTRICT refuses a deletion", ANY, |s| {
         s.code == 18
-            && s.any_fired(|_, fired| {
+            && s.any_fired_of_window(|_, fired| {
                 fired.action == Action::Restrict
                     && fired.new_key.is_none()
                     && !fired.found.is_empty()
@@ -292,7 +289,7 @@ const TAKEN: &[Situation] = &[
             })
     }),
     ("RESTRICT after the row is changed again", ANY, |s| {
-        s.changes_again() && s.any_fired(|_, fired| fired.action == Action::Restrict)
+        s.changes_again() && s.any_fired_of_window(|_, fired| fired.action == Action::Restrict)
     }),
     ("NO ACTION leaves orphans by a shorter window", ANY, |s| {
         s.left_by_no_action(|old, new| old.0 == new.0 && new.1 < old.1)
@@ -321,10 +318,10 @@ const TAKEN: &[Situation] = &[
         s.code == 0 && s.served_on(false)
     }),
     ("mended by a longer window", ANY, |s| {
-        s.mended(|old, _| old.is_some())
+        s.mended_by_window(|old, _| old.is_some())
     }),
     ("mended by a new row", ANY, |s| {
-        s.mended(|old, _| old.is_none())
+        s.mended_by_window(|old, _| old.is_none())
     }),
 ];
 
@@ -332,7 +329,9 @@ const TAKEN: &[Situation] = &[
 const SEARCHES: &[Situation] = &[
     ("kind 10 deletes parents", ANY, |s| {
         s.search(10).is_some()
-            && s.any_step(|key, step| step.table == key.parent && step.kind == Kind::Delete)
+            && s.any_step_of_window(|key, step| {
+                step.table == key.parent && step.kind == Kind::Delete
+            })
     }),
     ("kind 11 sets a first day", ANY, |s| {
         s.sets(|key| (key.parent, key.parent_columns[key.parent_columns.len() - 1]))
@@ -347,13 +346,6 @@ const SEARCHES: &[Situation] = &[
 
 /// All situations.
 pub const SITUATIONS: [&[Situation]; 5] = [CHILDREN, REFUSED, PASSED, TAKEN, SEARCHES];
-
-/// The names of the situations that a call shows.
-pub fn shown(seen: &Seen) -> Vec<&'static str> {
-    let situations = SITUATIONS.into_iter().flatten();
-    let shown = situations.filter(|situation| (situation.2)(seen));
-    shown.map(|situation| situation.0).collect()
-}
 
 /// Whether the day lies in the window once all are folded.
 fn holds_folded(pair: &Pair) -> bool {
@@ -372,8 +364,7 @@ impl Seen<'_> {
     fn serves_itself(&self) -> bool {
         let mut own = self.windowed().filter(|key| key.child == key.parent);
         own.any(|key| {
-            let steps = self.steps.iter().filter(|step| step.table == key.child);
-            let mut rows = steps.filter_map(|step| self.after.row(step.table, step.row));
+            let mut rows = self.written(key.child);
             rows.any(|row| row_maps(key, &row, &row))
         })
     }
@@ -406,10 +397,8 @@ impl Seen<'_> {
     /// Whether a child row that was written is served by a parent whose name is spelled otherwise.
     fn served_in_another_spelling(&self) -> bool {
         self.windowed().any(|key| {
-            let steps = self.steps.iter().filter(|step| step.table == key.child);
-            let mut rows = steps.filter_map(|step| self.after.row(step.table, step.row));
             let parents = self.after.live_rows(key.parent);
-            rows.any(|row| {
+            self.written(key.child).any(|row| {
                 let child = key.child_key(&row);
                 let otherwise = |parent: &Row| names(parent) != &child[..child.len() - 1];
                 parents.iter().any(|(_, parent)| {
@@ -454,16 +443,7 @@ impl Seen<'_> {
     }
 
     fn refused_at(&self, kind: Kind) -> bool {
-        self.code == 24 && self.steps.last().map_or(false, |step| step.kind == kind)
-    }
-
-    /// Whether the call is refused at a row change for which 24 is due too.
-    fn refused_where_24(&self, code: i64) -> bool {
-        let due_too = self
-            .steps
-            .last()
-            .map_or(false, |step| step.due.contains(&24));
-        self.code == code && due_too
+        self.refused(24).map_or(false, |step| step.kind == kind)
     }
 
     fn passed_touching(&self, such: fn(Days, Days) -> bool) -> bool {
@@ -472,35 +452,39 @@ impl Seen<'_> {
         })
     }
 
+    /// Whether a window is moved so under a key of this action, and a child row taken is so: the key,
+    /// the child key and the new parent key.
+    fn moves(
+        &self,
+        action: Action,
+        such: fn(Days, Days) -> bool,
+        taken: impl Fn(&Key, &Row, &Row) -> bool,
+    ) -> bool {
+        self.updates(|key, (old, new), found| {
+            key.on_update == action
+                && such(days(old), days(new))
+                && found.iter().any(|child| taken(key, child, new))
+        })
+    }
+
     /// Whether a child row that is taken under RESTRICT stays in a window moved so.
     fn kept_by_restrict(&self, such: fn(Days, Days) -> bool) -> bool {
         self.code == 0
-            && self.any_fired(|_, fired| fired.action == Action::Restrict)
-            && self.updates(|key, (old, new), found| {
-                key.on_update == Action::Restrict
-                    && such(days(old), days(new))
-                    && found.iter().any(|child| maps(key, child, new))
-            })
+            && self.any_fired_of_window(|_, fired| fired.action == Action::Restrict)
+            && self.moves(Action::Restrict, such, maps)
     }
 
     /// Whether RESTRICT refuses at a child row that does not stay in a window moved so.
     fn refused_by_restrict(&self, such: fn(Days, Days) -> bool) -> bool {
-        self.code == 18
-            && self.updates(|key, (old, new), found| {
-                key.on_update == Action::Restrict
-                    && such(days(old), days(new))
-                    && found.iter().any(|child| !maps(key, child, new))
-            })
+        let strays = |key: &Key, child: &Row, new: &Row| !maps(key, child, new);
+        self.code == 18 && self.moves(Action::Restrict, such, strays)
     }
 
     /// Whether NO ACTION leaves a child row that is an orphan after a window was moved so.
     fn left_by_no_action(&self, such: fn(Days, Days) -> bool) -> bool {
-        self.code == 0
-            && self.updates(|key, (old, new), found| {
-                let parents = parent_keys(&self.after, key);
-                key.on_update == Action::NoAction
-                    && such(days(old), days(new))
-                    && found.iter().any(|child| !is_served(key, child, &parents))
-            })
+        let orphan = |key: &Key, child: &Row, _: &Row| {
+            !is_served(key, child, &parent_keys(&self.after, key))
+        };
+        self.code == 0 && self.moves(Action::NoAction, such, orphan)
     }
 }

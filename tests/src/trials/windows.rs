@@ -1,43 +1,32 @@
 //! Calls and orphan lists on schemas with windowed keys.
 
-use super::origins::Origin;
+use super::seen::Seen;
 use super::watched::{Sort, Start};
 use super::window_lists;
-use super::window_seen::Seen;
-use super::window_situations;
+use super::window_situations::SITUATIONS;
 use crate::inputs::grounds::Ground;
-use crate::inputs::{damages, window_calls, windows};
+use crate::inputs::{damages, populated, window_calls, windows};
 use crate::random::Random;
 
 pub const SORT: Sort = Sort {
     start,
     damaged,
-    shown: |rules, made| window_situations::shown(&Seen::new(rules, made)),
-    shown_by_list: window_lists::shown,
+    shown: |rules, made| Seen::new(rules, made).shown(SITUATIONS.into_iter().flatten()),
+    of_lists: window_lists::SITUATIONS,
 };
 
 fn start(r: &mut Random) -> Start {
     if r.once_in(12) {
         let (ground, area) = windows::chained(r);
-        return Start {
-            ground,
-            area,
-            origin: Origin::Reached,
-            call: window_calls::on_chain,
-        };
+        return Start::reached(ground, area, window_calls::on_chain);
     }
     let ground = windows::ground(r);
-    let (area, origin) = if r.between(0, 4) < 2 {
-        (windows::filled(r, &ground), Origin::Filled)
-    } else {
-        (windows::reached(r, &ground), Origin::Reached)
-    };
-    Start {
-        ground,
-        area,
-        origin,
-        call: window_calls::any,
+    if r.between(0, 4) < 2 {
+        let area = populated::filled(r, &ground, &windows::row);
+        return Start::filled(ground, area, window_calls::any);
     }
+    let area = populated::reached_with_level(r, &ground, 3, &windows::row);
+    Start::reached(ground, area, window_calls::any)
 }
 
 /// A copy with damaged windows, or with other damages.
