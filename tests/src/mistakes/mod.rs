@@ -5,6 +5,7 @@ mod actions;
 mod broken_keys;
 mod broken_readings;
 mod folded;
+mod left_days;
 mod match_full;
 mod old_key;
 mod orphan_list;
@@ -49,6 +50,7 @@ pub fn all() -> Vec<Named> {
         windows::BROKEN,
         windows::CHANGES,
         windows::ORPHANS,
+        left_days::ALL,
         shared_days::ORDER,
         shared_days::SHARED,
     ];
