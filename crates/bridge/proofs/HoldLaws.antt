@@ -1,6 +1,6 @@
 -- Areas that hold a book.
 -- Assumes nothing.
-use mathlib.Core.Path.{_≡_, refl, sym, _∙_, ap, subst}
+use mathlib.Core.Path.{_≡_, refl, sym, _∙_, ap}
 use mathlib.Core.List.{List}
 use Prim.Native.Nat.{_≤_}
 use native.Mathlib.Omega.{arith}
@@ -15,7 +15,6 @@ use Rattle.rules.specs.Area.{words, view, legible, onWords}
 use Rattle.bridge.specs.Fit.{workOf, Fit, Keeps, Holds}
 use Rattle.bridge.proofs.Views.{words-view}
 use Rattle.bridge.proofs.RoundTrip.{Formed, view-words, legible-words, words-length}
-use Rattle.bridge.proofs.RowWords.{formed-fit}
 
 -- a book's words, written
 pub holds-words : {s : Schema} {a : List ℤ} {b : Book} → Formed s b → a ≡ words b → Holds s a b
@@ -29,14 +28,8 @@ holds-words {s} f e =
 pub holds-all : {s : Schema} {a : List ℤ} {b : Book} → Holds s a b → a ≡ words b
 holds-all {s} {a} h = sym (words-view s a (h .fit .size) (h .fit .legible-is)) ∙ ap words (h .is)
 
-pub holds-formed : {s : Schema} {a : List ℤ} {b : Book} → Holds s a b → Formed s b
-holds-formed {s} h = subst (Formed s) (h .is) (formed-fit (h .fit))
-
 pub holds-view : {s : Schema} {a : List ℤ} → Fit s a → Holds s a (view s a)
 holds-view f = record { fit = f; is = refl }
-
-pub holds-keeps : {s : Schema} {a a′ : List ℤ} → Keeps s a a′ → Holds s a′ (withWork (workOf s a′) (view s a))
-holds-keeps k = record { fit = k .fit; is = k .rest }
 
 -- the header, the kept numbers and the levels are there
 pub area-long : {s : Schema} {a : List ℤ} → Fit s a → 333 ≤ length a

@@ -10,7 +10,7 @@ use lib.ListN.{length, getD, take, drop, replicate, length-append, length-drop, 
 use lib.Seq.{length-take-le, take-all}
 use Rattle.bridge.proofs.Shapes.{Shaped, widths, shapeOf}
 use Rattle.bridge.proofs.Views.{rowStart}
-use Rattle.rules.specs.Area.{tablesOf, words, view, rowPart}
+use Rattle.rules.specs.Area.{tablesOf, view, rowPart}
 use Rattle.rules.specs.Lists.{flat, chunks}
 use Rattle.rules.specs.Rows.{Tables}
 use Rattle.schema.specs.Records.{Schema, Table, noTable, tableOf}

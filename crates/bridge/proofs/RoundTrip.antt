@@ -22,7 +22,7 @@ use Rattle.rules.specs.Lists.{𝟘, flat, chunks}
 use Rattle.rules.specs.Rows.{Tables}
 use Rattle.rules.specs.Values.{natOf, sameWord, natural}
 use Rattle.schema.proofs.RangeLaws.{every-at, every-nil, every-cons}
-use Rattle.schema.specs.Ranges.{all, every}
+use Rattle.schema.specs.Ranges.{all}
 use Rattle.schema.specs.Records.{Schema, Table}
 use Rattle.schema.specs.Sizes.{tableSize, rowsSize, areaSize}
 

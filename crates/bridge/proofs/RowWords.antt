@@ -9,7 +9,7 @@ use lib.Dec.{ltb, eqb, leb→le, lt→ltb}
 use lib.IntN.{ℤ, pos}
 use lib.ListN.{length, getD, set, take, drop, replicate, length-append, length-map, length-reverse, length-take, length-drop, length-set, length-replicate, List·getD-map}
 use lib.Seq.{sets, sets-eq, length-sets, length-take-le, take-take, take-nil, drop-drop, drop-cons}
-use Rattle.bridge.proofs.JournalWords.{records, pushed, journalStart, words-push}
+use Rattle.bridge.proofs.JournalWords.{pushed, journalStart, words-push}
 use Rattle.bridge.proofs.Offsets.{rowOffset, row-start}
 use Rattle.bridge.proofs.RoundTrip.{Formed, formed-view, shortRow, levelList, recordList, records-sized, of-size, levels-length, tables-are, view-words, legible-words, words-length}
 use Rattle.bridge.proofs.Shapes.{Shaped, shapeOf, length-overwrite, widths-put, nine-words, rows-short}

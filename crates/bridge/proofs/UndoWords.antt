@@ -108,9 +108,6 @@ record-at s a j h =
     ∙ drop-drop (rowsSize (s .tables) + j * 10) 333 a ∙ ap (λ n. drop n a) q)
 
 -- the newest record, by the words
-pub noEntry : Entry
-noEntry = record { table = 0; row = 0; old = [] }
-
 module _ {s : Schema} {a : List ℤ} (f : Fit s a) (u : ℕ) (e : natOf (getD a 2 𝟘) ≡ suc u) where
   unfoldable pub at : ℕ
   at = 333 + rowsSize (s .tables) + u * 10

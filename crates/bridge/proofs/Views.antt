@@ -9,7 +9,7 @@ use native.Mathlib.Omega.{arith}
 use lib.Dec.{leb, eqb, leb→le, eqb→eq}
 use lib.IntN.{ℤ, pos, negsuc}
 use lib.ListN.{length, getD, set, take, drop, take-append-drop, length-take, length-drop, length-map, length-reverse, length-append, List·getD-map}
-use lib.Seq.{set-append-seam, take-append-add, drop-append-add, take-append-le, drop-append-le, drop-length, length-take-le}
+use lib.Seq.{take-append-add, drop-append-add, take-append-le, drop-append-le, drop-length, length-take-le}
 use Rattle.bridge.proofs.Tests.{all-head, all-tail, holds}
 use Rattle.rules.specs.Area.{tablesOf, levelWords, entryWords, levelOf, entryOf, words, levelPart, rowPart, recordPart, view, naturalHead, legible}
 use Rattle.rules.specs.Book.{Book}
@@ -198,7 +198,3 @@ words-put b t r row ht hr wide =
     ap (λ z. (pos (length (b .levels)) ∷ pos (b .opener) ∷ pos (length (b .work .used)) ∷ 𝟘 ∷ []) ++ (b .kept ++ (flat (map levelWords (reverse (b .levels)) ++ b .closed) ++ (z ++ flat (map entryWords (reverse (b .work .used)) ++ b .work .spare)))))
     (rows-put (b .work .tabs) t r row ht hr wide)
     ∙ sym (splice-fourth (pos (length (b .levels)) ∷ pos (b .opener) ∷ pos (length (b .work .used)) ∷ 𝟘 ∷ []) (b .kept) (flat (map levelWords (reverse (b .levels)) ++ b .closed)) (flat (map flat (b .work .tabs))) (flat (map entryWords (reverse (b .work .used)) ++ b .work .spare)) (rowStart t r (b .work .tabs)) row (rows-bound (b .work .tabs) t r row ht hr wide))
-
--- a record written to the journal's first spare place
-push-list : {A : Type 0} (xs : List A) (y x : A) (zs : List A) → (xs ++ (x ∷ [])) ++ zs ≡ set (xs ++ (y ∷ zs)) (length xs) x
-push-list xs y x zs = append-assoc xs (x ∷ []) zs ∙ sym (set-append-seam xs y zs x)

@@ -1,24 +1,21 @@
 -- What a request that was read says of its call.
 -- Assumes nothing.
-use mathlib.Core.Path.{_≡_, refl, sym, _∙_, ap, ap₂}
-use mathlib.Core.Bool.{Bool, true, false, _&&_, false≢true}
-use mathlib.Core.List.{List, [], _∷_}
-use Prim.Native.Nat.{ℕ, _+_, _^_, _≤_, _<_}
-use native.Mathlib.Nat.{mod-eq-of-lt}
+use mathlib.Core.Path.{_≡_, refl, sym, _∙_, ap}
+use mathlib.Core.Bool.{Bool, true, false, _&&_}
+use mathlib.Core.List.{List}
+use Prim.Native.Nat.{ℕ, _≤_, _<_}
 use native.Mathlib.Omega.{arith}
 use borrow.Author.Tests.{leb-true, ltb-true, ltb-false, eqb-true}
 use lib.Dec.{leb, ltb, eqb}
-use lib.IntN.{ℤ, pos}
+use lib.IntN.{ℤ}
 use lib.ListN.{length, getD, drop, List·getD-eq-default}
 use Rattle.schema.specs.Bounds.{Within}
 use Rattle.schema.specs.Records.{Table, Schema, noTable, tableOf}
 use Rattle.schema.proofs.RangeLaws.{and-left, and-right}
 use Rattle.schema.proofs.Formed.{and3}
 use Rattle.rules.specs.Lists.{𝟘}
-use Rattle.rules.specs.Values.{natOf, natural, sameWord, sameWords, allZero}
-use Rattle.rules.specs.Rows.{held, liveImage}
-use Rattle.rules.specs.Calls.{Call, malformed, insert, update, delete, begin, savepoint, release, rollbackTo, rollback, commit, deleteWhere, updateWhere, formedIf, parsed, parse, inTable, rowFits, inColumns, seeksNull, setsNull, valueFits, levelNumber, allowed}
-use Rattle.bridge.proofs.Bits.{same-eq}
+use Rattle.rules.specs.Values.{natOf, natural}
+use Rattle.rules.specs.Calls.{Call, malformed, insert, update, delete, begin, savepoint, release, rollbackTo, rollback, commit, deleteWhere, updateWhere, formedIf, parsed, parse, inTable, inColumns, seeksNull, setsNull, valueFits, levelNumber, allowed}
 use Rattle.bridge.proofs.UndoWords.{in-tables}
 use Rattle.call_form.specs.declared.Request.the-variants.{Malformed, Insert, Update, Delete, Release, RollbackTo, DeleteWhere, UpdateWhere}
 use Rattle.call_form.specs.Requests.{callOf, judged}
@@ -46,11 +43,6 @@ pub record FoundRequest (s : Schema) (ws : List ℤ) (t c : ℕ) : Type 0 where
   pub column : c < tableOf s t .columns
   pub size : length ws ≡ 12
 
--- an insertion's or an update's mask and values: no bit past the columns, and they are the image that is written
-pub record GivenImage (columns m : ℕ) (vs : List ℤ) : Type 0 where
-  pub mask : m < 2 ^ columns
-  pub image : liveImage columns m vs ≡ pos (256 + m) ∷ vs
-
 -- a call that is not refused
 unfoldable pub isCall : Call → Bool
 isCall malformed = false
@@ -77,20 +69,6 @@ read-allowed {s} q = ap (allowed s) (sym (q .parsed-is)) ∙ q .allowed-is
 no-call : (c : Call) → c ≡ malformed → isCall c ≡ true → ⊥
 unfolding isCall
 no-call c e h = let z : true ≡ false = sym h ∙ ap isCall e in let y : _≡_ {A = ℕ} 0 1 = cc in omega arith
-
-same-values : (xs ys : List ℤ) → sameWords xs ys ≡ true → xs ≡ ys
-unfolding sameWords
-same-values [] [] h = refl
-same-values [] (y ∷ ys) h = absurd (false≢true h)
-same-values (x ∷ xs) [] h = absurd (false≢true h)
-same-values (x ∷ xs) (y ∷ ys) h = ap₂ (λ v vs. v ∷ vs) (same-eq x y (and-left (sameWord x y) (sameWords xs ys) h)) (same-values xs ys (and-right (sameWord x y) (sameWords xs ys) h))
-
-fits-image : (t : Table) (m : ℕ) (vs : List ℤ) → rowFits t m vs ≡ true → GivenImage (t .columns) m vs
-unfolding rowFits liveImage
-fits-image t m vs e =
-    let p = and3 (ltb m (2 ^ t .columns)) (allZero (drop (t .columns) vs)) (sameWords vs (held m 0 vs)) e in
-    let l : m < 2 ^ t .columns = ltb-true m (2 ^ t .columns) (p .0) in
-    record { mask = l; image = ap₂ (λ n l. pos (256 + n) ∷ l) (mod-eq-of-lt l) (sym (same-values vs (held m 0 vs) (p .2))) }
 
 module _ (s : Schema) (ws : List ℤ) where
   -- the call of a request that is not `Malformed`
@@ -126,10 +104,6 @@ module _ (s : Schema) (ws : List ℤ) where
       let l : r < tableOf s t .rows = ltb-true r (tableOf s t .rows) (f (read-allowed q)) in
       record { table = in-tables s t r l; row = l; size = size-is c h (q .parsed-is) }
 
-  image-is : (c : Call) (t : ℕ) → isCall c ≡ true → c ≡ judged s (parse ws) → (allowed s c ≡ true → rowFits (tableOf s t) (natOf (getD ws 3 𝟘)) (drop 4 ws) ≡ true)
-      → GivenImage (tableOf s t .columns) (natOf (getD ws 3 𝟘)) (drop 4 ws)
-  image-is c t h e f = fits-image (tableOf s t) (natOf (getD ws 3 𝟘)) (drop 4 ws) (f (read-allowed (read-is c h e)))
-
   module _ (t r : ℕ) where
     pub insert-row : callOf (Insert t r) ws ≡ judged s (parse ws) → RowRequest s ws t r
     unfolding callOf isCall allowed
@@ -138,14 +112,6 @@ module _ (s : Schema) (ws : List ℤ) where
     pub update-row : callOf (Update t r) ws ≡ judged s (parse ws) → RowRequest s ws t r
     unfolding callOf isCall allowed
     update-row e = row-is (update t r (natOf (getD ws 3 𝟘)) (drop 4 ws)) t r refl e (and-left (inTable s t r) _)
-
-    pub insert-image : callOf (Insert t r) ws ≡ judged s (parse ws) → GivenImage (tableOf s t .columns) (natOf (getD ws 3 𝟘)) (drop 4 ws)
-    unfolding callOf isCall allowed
-    insert-image e = image-is (insert t r (natOf (getD ws 3 𝟘)) (drop 4 ws)) t refl e (and-right (inTable s t r) _)
-
-    pub update-image : callOf (Update t r) ws ≡ judged s (parse ws) → GivenImage (tableOf s t .columns) (natOf (getD ws 3 𝟘)) (drop 4 ws)
-    unfolding callOf isCall allowed
-    update-image e = image-is (update t r (natOf (getD ws 3 𝟘)) (drop 4 ws)) t refl e (and-right (inTable s t r) _)
 
     pub delete-row : callOf (Delete t r) ws ≡ judged s (parse ws) → RowRequest s ws t r
     unfolding callOf isCall allowed

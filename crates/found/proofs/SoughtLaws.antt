@@ -36,7 +36,7 @@ use Rattle.found.specs.declared.Cell.{Cell}
 use Rattle.found.specs.declared.Given.{Given}
 use Rattle.found.specs.declared.Given.the-variants.{Deleted, Set}
 use Rattle.found.specs.declared.Seeking.{Seeking}
-use Rattle.found.specs.Sought.{foundRow, nullIn, hasNull, foundBy, foundAt, valueKey, Seekable, Seeks, SeekingOf, givenImage, setsIn, foundChanges, changesBy}
+use Rattle.found.specs.Sought.{foundRow, nullIn, hasNull, foundBy, foundAt, valueKey, Seeks, SeekingOf, givenImage, setsIn, foundChanges, changesBy}
 
 -- ---- NULL is sought
 

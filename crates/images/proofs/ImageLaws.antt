@@ -16,7 +16,7 @@ use Rattle.schema.specs.Bytes.{bit}
 use Rattle.schema.specs.Records.{Table, ForeignKey, Schema, tableOf}
 use Rattle.rules.specs.Lists.{𝟘, padded}
 use Rattle.rules.specs.Values.{natOf}
-use Rattle.rules.specs.Rows.{Row, live, nullAt, valueAt, maskOf, held, liveImage, normal}
+use Rattle.rules.specs.Rows.{Row, nullAt, valueAt, maskOf, held, liveImage, normal}
 use Rattle.rules.specs.Change.{flag, setCell, fillsNull, filler, refilled, childImage}
 use Rattle.rules.specs.Found.{rowSet}
 use Rattle.rows.proofs.CellLaws.{columns-step, columns-end}

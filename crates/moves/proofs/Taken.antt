@@ -8,7 +8,7 @@ use borrow.Author.Tests.{not-false}
 use lib.Dec.{eqb}
 use lib.ListN.{length, getD}
 use Rattle.schema.specs.Records.{Window, ForeignKey, childKey, parentKey}
-use Rattle.schema.proofs.RangeLaws.{and-left, and-right}
+use Rattle.schema.proofs.RangeLaws.{and-right}
 use Rattle.rules.specs.Lists.{any, count, except}
 use Rattle.rules.specs.Rows.{Row, Tables, live, nullAt}
 use Rattle.rules.specs.Keys.{fullKey, halfKey, mapsTo, due, serves, takes, sameParentKey, fires}

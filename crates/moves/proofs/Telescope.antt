@@ -70,10 +70,6 @@ module _ (s : Schema) (few : length (s .keys) ≤ 32) where
         told = sym (plus-assoc (counts s a) m n (p .size ∙ sym l) (q .size ∙ sym (p .size))) ∙ ap (λ l. plus l n) (p .told) ∙ q .told;
       }
 
-  -- a tally that tells is the difference of the counts
-  pub tells-less : {a b : Tables} {m : List ℤ} → Tells s a b m → m ≡ less (counts s b) (counts s a)
-  tells-less {a} {b} {m} p = sym (less-plus (counts s a) m (p .size ∙ sym (length-counts-32 s few a))) ∙ ap (λ l. less l (counts s a)) (p .told)
-
 -- one number added to both leaves the difference as it is
 pub both-more : (x y z : ℤ) → x +ℤ z -ℤ (y +ℤ z) ≡ x -ℤ y
 both-more x y z = rw (negℤ-+ℤ y z, +ℤ-assoc x z (negℤ y +ℤ negℤ z), +ℤ-comm z (negℤ y +ℤ negℤ z), -ℤ-+ℤ-cancel (negℤ y) z)

@@ -16,7 +16,7 @@ use Rattle.schema.specs.Marks.{Marks}
 use Rattle.schema.proofs.ListLaws.{length-from, get-list, get-map}
 use Rattle.schema.proofs.MaskLaws.{bit-none}
 use Rattle.rules.specs.Lists.{𝟘}
-use Rattle.rules.specs.Values.{folded, sameValue}
+use Rattle.rules.specs.Values.{folded}
 use Rattle.rules.specs.Rows.{Row, nullAt, valueAt}
 use Rattle.rules.specs.Found.{cellIs}
 use Rattle.rules.specs.KeyValues.{keyValues, holdsKey}

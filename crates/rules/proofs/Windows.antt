@@ -1,7 +1,7 @@
 -- Worked examples of windowed keys: a window's end is not in it, and a reading belongs to the calibration of its day.
 -- Assumes nothing.
 use mathlib.Core.Path.{_≡_, refl}
-use mathlib.Core.Bool.{Bool, true, false}
+use mathlib.Core.Bool.{true, false}
 use mathlib.Core.List.{List, [], _∷_, map}
 use lib.IntN.{ℤ, pos, negsuc}
 use Rattle.rules.specs.Keys.{isWithin, sharesDay}

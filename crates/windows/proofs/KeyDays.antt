@@ -109,10 +109,6 @@ module _ (b : List ℕ) (k : ℕ) where
         }
 
     -- the days' columns in rows of the two tables
-    pub child-days-in : (parent : Row) → DaysIn (suc (tableOf (schemaOf b) (K .child) .columns)) (childDays parent x)
-    unfolding childDays DaysIn
-    child-days-in parent = omega (arith, h .day-within)
-
     pub parent-days-in : (child : Row) → DaysIn (suc (tableOf (schemaOf b) (K .parent) .columns)) (parentDays child x)
     unfolding parentDays DaysIn
     parent-days-in child = omega (arith, h .end-within)

@@ -1,5 +1,4 @@
 use native.Mathlib.Omega.{arith}
-use borrow.Author.Needs.{needs}
 use Rattle.orphans.proofs.OrphanLaws.{child-stands, child-judged}
 use Rattle.orphans.proofs.is_orphan.Statement.{statement}
 use Rattle.orphans.proofs.is_orphan.Tie as tie

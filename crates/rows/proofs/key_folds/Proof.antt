@@ -2,7 +2,6 @@ use mathlib.Core.Path.{sym, _∙_}
 use native.Mathlib.Omega.{arith}
 use Rattle.rows.proofs.TableLaws.{parent-table, parent-wide, parent-folds}
 use Rattle.rows.proofs.FoldLaws.{folds-none}
-use borrow.Author.Needs.{needs}
 use Rattle.rows.proofs.key_folds.Statement.{statement}
 use Rattle.rows.proofs.key_folds.Tie as tie
 
