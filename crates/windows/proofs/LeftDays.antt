@@ -19,11 +19,10 @@ use Rattle.bridge.proofs.KeyLaws.{key-sym, key-trans}
 use Rattle.bridge.proofs.MapLaws.{InWindow, in-window, window-in}
 use Rattle.rows.specs.declared.SoughtKey.{SoughtKey}
 use Rattle.rows.specs.Sought.{hasSought, SoughtOf}
-use Rattle.windows.specs.declared.Days.{Days}
-use Rattle.windows.specs.declared.Days.the-variants.{Within}
 use Rattle.windows.specs.declared.WindowKey.{WindowKey}
 use Rattle.windows.specs.Days.{dayWithin, meets, DaysIn, isOn}
 use Rattle.windows.specs.WindowKey.{windowOf, WindowColumns, childDays, pairFolds, childPairs, parentPairs, parentAll, servesBy, keepsPairs, keepsDays, leftFirst, leftEnd, leftDays}
+use Rattle.windows.proofs.WindowLaws.{narrowed}
 use Rattle.windows.proofs.KeyDays.{parent-all, first-filled, end-filled, serves-by, maps-parts, taken-on}
 
 -- ---- days of a window that another one may not hold
@@ -88,14 +87,11 @@ module _ (b : List ℕ) (k : ℕ) (x : WindowKey) (h : WindowColumns b k x) (old
   abbrev w : Window
   w = windowOf x
 
-  abbrev narrowed : Days
-  narrowed = Within (x .day) (leftFirst (firstDay w old) (firstDay w new) (endDay w new)) (leftEnd (endDay w old) (firstDay w new) (endDay w new))
-
   pub left-days-in : DaysIn (suc (tableOf (schemaOf b) (K .child) .columns)) (leftDays old new x)
   unfolding leftDays childDays DaysIn
   left-days-in = by (keepsPairs x old new)
     where
-      by : (t : Bool) → DaysIn (suc (tableOf (schemaOf b) (K .child) .columns)) (cond t narrowed (childDays old x))
+      by : (t : Bool) → DaysIn (suc (tableOf (schemaOf b) (K .child) .columns)) (cond t (narrowed x old new) (childDays old x))
       by true = omega (arith, h .day-within)
       by false = omega (arith, h .day-within)
 
@@ -134,11 +130,11 @@ module _ (b : List ℕ) (k : ℕ) (x : WindowKey) (h : WindowColumns b k x) (old
         (day-kept (firstDay w old) (endDay w old) (firstDay w new) (endDay w new) day (and-left low high days) (and-right low high days) (inside .within))
 
     -- and where its day is not sought
-    pub passed-served : meets (leftDays old new x) row ≡ false → serves K row new ≡ true
+    passed-served : meets (leftDays old new x) row ≡ false → serves K row new ≡ true
     unfolding leftDays childDays meets dayWithin
     passed-served = by (keepsPairs x old new) refl
       where
-        by : (t : Bool) → keepsPairs x old new ≡ t → meets (cond t narrowed (childDays old x)) row ≡ false → serves K row new ≡ true
+        by : (t : Bool) → keepsPairs x old new ≡ t → meets (cond t (narrowed x old new) (childDays old x)) row ≡ false → serves K row new ≡ true
         by true kept m =
             stays-served kept
             (left-outside (firstDay w old) (endDay w old) (firstDay w new) (endDay w new) day (inside .within) (rw (inside .day) at m))
@@ -149,7 +145,7 @@ module _ (b : List ℕ) (k : ℕ) (x : WindowKey) (h : WindowColumns b k x) (old
   unfolding leftDays childDays meets dayWithin
   left-meets row = by (keepsPairs x old new)
     where
-      by : (t : Bool) → meets (cond t narrowed (childDays old x)) row ≡ true → meets (childDays old x) row ≡ true
+      by : (t : Bool) → meets (cond t (narrowed x old new) (childDays old x)) row ≡ true → meets (childDays old x) row ≡ true
       by true m =
           let filled = not (nullAt row (x .day)) in
           let sought = isWithin (leftFirst (firstDay w old) (firstDay w new) (endDay w new)) (leftEnd (endDay w old) (firstDay w new) (endDay w new)) (valueAt row (x .day)) in

@@ -151,7 +151,8 @@ module _ (x : WindowKey) where
     unfolding keepsDays
     days-stay e = sym (ap (λ (b : Bool). b && window-in-new) e)
 
-    abbrev narrowed : Days
+    -- the old window's days but for those at either end that the new one has
+    abbrev pub narrowed : Days
     narrowed =
         Within (x .day) (leftFirst (firstDay (windowOf x) old) (firstDay (windowOf x) new) (endDay (windowOf x) new)) (leftEnd (endDay (windowOf x) old) (firstDay (windowOf x) new) (endDay (windowOf x) new))
 
