@@ -11,10 +11,11 @@ use Rattle.schema.specs.Fields.{tableFrom, actionFrom, matchFrom, columnRule, u
 use Rattle.schema.specs.Ranges.{allFrom, anyFrom, andAll, every, listFrom, all}
 use Rattle.schema.specs.Records.{childKey, uniqueColumns, parentKey}
 use Rattle.schema.specs.Sizes.{tableSize, rowsSize, tableOffset, areaSize}
-use Rattle.rules.specs.Area.{levelWords, entryWords, words, levelOf, entryOf, tablesOf, levelPart, rowPart, recordPart, view, naturalHead, legible, freshWords}
+use Rattle.rules.specs.Area.{levelWords, entryWords, words, levelOf, entryOf, tablesOf, levelPart, rowPart, recordPart, view, naturalHead, legible, ensure, areaStep, freshWords}
 use Rattle.rules.specs.Book.{Book, undoOne, undoAll, undo, undoTo, emptied, cleared, push, close, backTo, back, ended, firstKept, abort}
 use Rattle.rules.specs.Calls.{formedIf, parsed, parse, inTable, rowFits, inColumns, seeksNull, setsNull, valueFits, levelNumber, allowed}
 use Rattle.rules.specs.Change.{then, given, inTurn, notNullBroken, twice, maskBroken, uniqueBroken, clashes, windowBroken, badWindow, admits, admitted, flag, setCell, fillsNull, filler, refilled, childImage, cascaded, actionOf, taken, rowTurn, children, keyTurn, actions, change}
+use Rattle.rules.specs.Engine.{underSchema, callOn, runOn}
 use Rattle.rules.specs.Found.{cellIs, isFound, rowSet, foundTurn, rowsFound}
 use Rattle.rules.specs.Keys.{sameCell, sameKey, fullKey, halfKey, maskColumnsFrom, maskColumns, firstDay, endDay, isWithin, sharesDay, inWindow, sameWindow, mapsTo, halfDue, due, serves, orphan, orphans, counts, takes, sameParent, sameParentKey, fires, uses, usesBroken}
 use Rattle.rules.specs.Lists.{any, count, except, flat, chunks, one, upFrom, sum, less, plus}
@@ -42,12 +43,17 @@ show (x ∷ xs) = shown (x .1) ∷ show xs
 abbrev pub Turns : Type 0
 Turns = List ℕ → List ℤ → List (List ℤ) → List Logged × List ℤ
 
--- on the area's book, for bytes and words that are taken for a schema's and an area's. The same calls with every check, on words, are computed in `worked_calls`
+-- on the area's book, for bytes and words that are taken for a schema's and an area's
 unfoldable pub onBook : Turns
 unfolding bit columnRule tableFrom actionFrom matchFrom uniqueIs hasParentKey hasEnd isBroken keyFolds keyWindows columnMask foldsOf keyFrom schemaOf allFrom anyFrom andAll every listFrom all tableSize rowsSize levelWords entryWords words levelOf entryOf tablesOf levelPart rowPart recordPart view undoOne undoAll undo undoTo emptied cleared push close backTo back ended firstKept abort formedIf parsed parse inTable rowFits inColumns seeksNull setsNull valueFits levelNumber allowed cellIs isFound rowSet inTurn foundTurn rowsFound then given notNullBroken twice maskBroken uniqueBroken clashes windowBroken badWindow admits admitted flag setCell fillsNull filler refilled childImage cascaded actionOf taken rowTurn children keyTurn actions change sameCell sameKey fullKey halfKey maskColumnsFrom maskColumns childKey uniqueColumns parentKey firstDay endDay isWithin sharesDay inWindow sameWindow mapsTo halfDue due serves orphan orphans counts takes sameParent sameParentKey fires uses usesBroken any count except flat chunks one upFrom sum less plus number shown accepted failing rowAt putRow overwrite image deletedImage liveState live nullAt valueAt maskOf held liveImage normal inTransaction openerFits keptInRange savedInRange usesRise placed undamaged levelOpen check demand immediateZero enforced journalAfter afterStatement settle conclude statement rowStatement opened openerOf committed released rolled act step runAll raised eachByte folded sameValue sameWord sameWords allZero natOf natural inRange
 onBook bs ws cs =
     let r : List Logged × Book = run (schemaOf bs) cs (view (schemaOf bs) ws) in
     (r .0, words (r .1))
+
+-- on its words, each call with the checks of the bytes and of the area. The worked examples are computed so in `worked_calls`
+unfoldable pub onArea : Turns
+unfolding onBook startsWith headerRest headerRules maskRule sizeRules tableRest tableRules newColumn columnsRule windowedRule codeRules keyRest keyRules wellFormed checkSchema tableSize rowsSize areaSize naturalHead legible ensure areaStep underSchema callOn
+onArea bs ws cs = runOn bs cs ws
 
 module _ (turns : Turns) where
   -- calls on a fresh area

@@ -2,6 +2,7 @@
 pub mod Inputs
 pub mod Computed
 pub mod PaperCases
+pub mod OnWords
 pub mod Examples
 pub mod ManyRows
 pub mod OldKey

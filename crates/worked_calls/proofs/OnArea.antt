@@ -1,12 +1,8 @@
 -- The worked examples of the rules from schema bytes and on an area's words: each call with the checks of the bytes and of the area.
 -- Assumes nothing.
 use mathlib.Core.Path.{refl}
-use Rattle.schema.specs.Check.{startsWith, headerRest, headerRules, maskRule, sizeRules, tableRest, tableRules, newColumn, columnsRule, windowedRule, codeRules, keyRest, keyRules, wellFormed, checkSchema}
-use Rattle.schema.specs.Sizes.{tableSize, rowsSize, areaSize}
-use Rattle.rules.specs.Area.{naturalHead, legible, ensure, areaStep}
-use Rattle.rules.specs.Engine.{underSchema, callOn, runOn}
 use Rattle.rules.proofs.Inputs.{begin, calibrations, commit, crossedKeys, delete, deleteWhere, eitherMatch, halfDrawn, insert, schemaS, update}
-use Rattle.rules.proofs.Computed.{Turns, onBook, answers, answersAfter, answersWith, callsLeft, listedAfter, sameArea}
+use Rattle.rules.proofs.Computed.{onArea, answers, answersAfter, answersWith, callsLeft, listedAfter, sameArea}
 use Rattle.rules.proofs.PaperCases.{Hold, paperCases}
 use Rattle.rules.proofs.Examples.{examples, UndoneStruck, undoneExamples, UndoneSame, ListedHolds, orphaned, ListedFull, ListedRefused}
 use Rattle.rules.proofs.ManyRows.{manyRows, NoneFoundJudged}
@@ -15,10 +11,6 @@ use Rattle.rules.proofs.MatchFull.{matchFull, ListedByMatch, unserved}
 use Rattle.rules.proofs.BrokenKeys.{brokenKeys, ChildDeleted, KeptJudged}
 use Rattle.rules.proofs.FoldedColumns.{foldedColumns}
 use Rattle.rules.proofs.Windows.{windowed, TwoParents}
-
-unfoldable pub onArea : Turns
-unfolding onBook startsWith headerRest headerRules maskRule sizeRules tableRest tableRules newColumn columnsRule windowedRule codeRules keyRest keyRules wellFormed checkSchema tableSize rowsSize areaSize naturalHead legible ensure areaStep underSchema callOn
-onArea bs ws cs = runOn bs cs ws
 
 pub paper-cases : Hold onArea paperCases
 unfolding onArea answers paperCases
