@@ -19,7 +19,8 @@ use Rattle.rules.specs.Engine.{underSchema, callOn, runOn}
 use Rattle.rules.specs.Found.{cellIs, isFound, rowSet, foundTurn, rowsFound}
 use Rattle.rules.specs.Keys.{sameCell, sameKey, fullKey, halfKey, maskColumnsFrom, maskColumns, firstDay, endDay, isWithin, sharesDay, inWindow, sameWindow, mapsTo, halfDue, due, serves, orphan, orphans, counts, takes, sameParent, sameParentKey, fires, uses, usesBroken}
 use Rattle.rules.specs.Lists.{any, count, except, flat, chunks, one, upFrom, sum, less, plus}
-use Rattle.rules.specs.OrphanList.{orphanTotal, recordIf, orphanRows, orphansFrom, orphanList, schemaVerdict, listVerdict, listed, listAnswer, lentAfter, listOrphans}
+use Rattle.rules.specs.OrphanList.{orphanTotal, recordIf, orphanRows, orphansFrom, orphanList, listVerdict, listed, listAnswer, lentAfter, listOrphans}
+use Rattle.rules.specs.Questions.{schemaVerdict, areaVerdict}
 use Rattle.rules.specs.Refusals.{number, shown, accepted, failing}
 use Rattle.rules.specs.Rows.{rowAt, putRow, overwrite, image, deletedImage, liveState, live, nullAt, valueAt, maskOf, held, liveImage, normal}
 use Rattle.rules.specs.State.{inTransaction, openerFits, keptInRange, savedInRange, usesRise, placed, undamaged, levelOpen}
@@ -88,5 +89,5 @@ module _ (turns : Turns) where
 
   -- the orphan list on the last area, for a lent list
   unfoldable pub listedAfter : List ℕ → List (List ℤ) → List Orphan → Listed × List Orphan
-  unfolding ran listOrphans lentAfter orphanList orphansFrom orphanRows recordIf listAnswer listed listVerdict schemaVerdict orphanTotal bit startsWith headerRest headerRules maskRule sizeRules tableRest tableRules columnRule newColumn columnsRule windowedRule codeRules keyRest keyRules wellFormed checkSchema tableFrom actionFrom matchFrom uniqueIs hasParentKey hasEnd isBroken keyFolds keyWindows columnMask foldsOf keyFrom schemaOf allFrom anyFrom andAll every listFrom all tableSize rowsSize tableOffset areaSize levelOf entryOf tablesOf levelPart rowPart recordPart view naturalHead legible inTable sameCell sameKey fullKey halfKey childKey uniqueColumns parentKey firstDay endDay isWithin sharesDay inWindow sameWindow mapsTo halfDue due serves orphan orphans any count except flat chunks one number failing rowAt liveState live nullAt valueAt inTransaction openerFits keptInRange savedInRange usesRise placed undamaged raised eachByte folded sameValue sameWord natOf natural inRange
+  unfolding ran listOrphans lentAfter orphanList orphansFrom orphanRows recordIf listAnswer listed listVerdict areaVerdict schemaVerdict orphanTotal bit startsWith headerRest headerRules maskRule sizeRules tableRest tableRules columnRule newColumn columnsRule windowedRule codeRules keyRest keyRules wellFormed checkSchema tableFrom actionFrom matchFrom uniqueIs hasParentKey hasEnd isBroken keyFolds keyWindows columnMask foldsOf keyFrom schemaOf allFrom anyFrom andAll every listFrom all tableSize rowsSize tableOffset areaSize levelOf entryOf tablesOf levelPart rowPart recordPart view naturalHead legible inTable sameCell sameKey fullKey halfKey childKey uniqueColumns parentKey firstDay endDay isWithin sharesDay inWindow sameWindow mapsTo halfDue due serves orphan orphans any count except flat chunks one number failing rowAt liveState live nullAt valueAt inTransaction openerFits keptInRange savedInRange usesRise placed undamaged raised eachByte folded sameValue sameWord natOf natural inRange
   listedAfter bs cs before = listOrphans bs (ran bs cs .1) before

@@ -14,5 +14,7 @@ pub mod Statement
 pub mod Step
 pub mod Area
 pub mod Engine
+pub mod Questions
 pub mod OrphanList
 pub mod Strike
+pub mod DeleteBound

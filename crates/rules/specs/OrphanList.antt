@@ -1,19 +1,15 @@
 -- The orphan list: "Into a lent list of records (foreign key, child row) go all orphans counted from the rows, each once; records past them keep what they held." "It shall go by foreign key number, then by rising child row."
 -- Assumes nothing.
-use mathlib.Core.Bool.{Bool, true, false, not, _&&_, _||_}
+use mathlib.Core.Bool.{Bool, true, false, _&&_, _||_}
 use mathlib.Core.List.{List, [], _∷_, _++_}
 use Prim.Native.Nat.{ℕ, suc, _+_}
 use lib.Dec.{ltb, eqb}
 use lib.IntN.{ℤ, pos}
 use lib.ListN.{length, getD, drop}
-use Rattle.schema.specs.declared.SchemaAnswer.{SchemaAnswer}
-use Rattle.schema.specs.declared.SchemaAnswer.the-variants.{Accepted, Malformed}
 use Rattle.schema.specs.Ranges.{all}
 use Rattle.schema.specs.Records.{ForeignKey, Schema, keyOf}
 use Rattle.schema.specs.Fields.{schemaOf}
-use Rattle.schema.specs.Check.{checkSchema}
-use Rattle.schema.specs.Sizes.{areaSize}
-use Rattle.rules.specs.declared.Refusal.the-variants.{SchemaMalformed, WrongLength, Damaged, ListTooShort}
+use Rattle.rules.specs.declared.Refusal.the-variants.{ListTooShort}
 use Rattle.rules.specs.declared.Orphan.{Orphan}
 use Rattle.rules.specs.declared.Listed.{Listed}
 use Rattle.rules.specs.Lists.{𝟘}
@@ -22,8 +18,8 @@ use Rattle.rules.specs.declared.Verdict.{Verdict}
 use Rattle.rules.specs.declared.Verdict.the-variants.{Pass, Fail}
 use Rattle.rules.specs.Rows.{Row, Tables, rowAt}
 use Rattle.rules.specs.Keys.{orphan, orphans}
-use Rattle.rules.specs.State.{undamaged}
-use Rattle.rules.specs.Area.{view, legible}
+use Rattle.rules.specs.Area.{view}
+use Rattle.rules.specs.Questions.{areaVerdict}
 
 -- a record before others, if the row that it names is an orphan
 unfoldable pub recordIf : Bool → Orphan → List Orphan → List Orphan
@@ -49,19 +45,11 @@ unfoldable pub orphanTotal : List ForeignKey → Tables → ℕ
 orphanTotal [] tabs = 0
 orphanTotal (k ∷ ks) tabs = orphans tabs k + orphanTotal ks tabs
 
--- refusal 1 comes before the other checks
-unfoldable pub schemaVerdict : SchemaAnswer → Verdict → Verdict
-schemaVerdict Accepted v = v
-schemaVerdict Malformed v = Fail SchemaMalformed
-
 -- "Checks: 1, .. 3, 10, 22.": 2 is given no more
 unfoldable pub listVerdict : List ℕ → List ℤ → ℕ → Verdict
 listVerdict bs ws room =
     let s : Schema = schemaOf bs in
-    schemaVerdict (checkSchema bs)
-    (failing (not (eqb (length ws) (areaSize s))) WrongLength
-    (failing (not (legible s ws && undamaged s (view s ws))) Damaged
-    (failing (ltb room (orphanTotal (s .keys) (view s ws .work .tabs))) ListTooShort Pass)))
+    areaVerdict bs ws (failing (ltb room (orphanTotal (s .keys) (view s ws .work .tabs))) ListTooShort Pass)
 
 -- "The answer is code 0 and their number; refused, the code and 0."
 unfoldable pub listed : Verdict → ℕ → Listed

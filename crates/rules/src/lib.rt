@@ -65,3 +65,10 @@ pub struct Listed {
     pub code: i64,
     pub count: usize,
 }
+
+// The answer of a question that asks for one number: the paper's code, and the number.
+#[repr(C)]
+pub struct Numbered {
+    pub code: i64,
+    pub number: i64,
+}
