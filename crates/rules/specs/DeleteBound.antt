@@ -2,7 +2,8 @@
 -- Assumes nothing.
 use mathlib.Core.Bool.{Bool, true, false, not, _&&_}
 use mathlib.Core.List.{List, [], _∷_}
-use Prim.Native.Nat.{ℕ, suc, _+_, _-_}
+use mathlib.Core.Logic.{_≢_}
+use Prim.Native.Nat.{ℕ, suc, _+_, _-_, _≤_}
 use lib.Dec.{eqb}
 use lib.IntN.{ℤ}
 use lib.ListN.{getD}
@@ -11,13 +12,18 @@ use Rattle.schema.specs.declared.Action.the-variants.{NoAction, Restrict, SetNu
 use Rattle.schema.specs.Ranges.{all}
 use Rattle.schema.specs.Records.{ForeignKey, Schema, tableOf, childKey, parentKey}
 use Rattle.schema.specs.Fields.{schemaOf}
+use Rattle.rules.specs.declared.Refusal.the-variants.{JournalFull}
 use Rattle.rules.specs.declared.Verdict.the-variants.{Pass}
+use Rattle.rules.specs.declared.Answer.{Answer}
+use Rattle.rules.specs.declared.Answer.the-variants.{Refused}
 use Rattle.rules.specs.declared.Numbered.{Numbered}
 use Rattle.rules.specs.Lists.{𝟘, any, count, upFrom}
 use Rattle.rules.specs.Values.{natOf}
+use Rattle.rules.specs.Refusals.{shown}
 use Rattle.rules.specs.Rows.{Row, Tables, live, nullAt}
-use Rattle.rules.specs.Calls.{Call, delete, deleteWhere}
+use Rattle.rules.specs.Calls.{Call, delete, deleteWhere, parse}
 use Rattle.rules.specs.Area.{view}
+use Rattle.rules.specs.Engine.{callOn}
 use Rattle.rules.specs.Questions.{areaVerdict, numberAnswer}
 
 -- ---- the sum
@@ -72,7 +78,7 @@ boundedKey s k Cascade = true
 unfoldable pub bounded : Schema → Bool
 bounded s = all (λ k. boundedKey s k (k .onDelete)) (s .keys)
 
--- ---- the claim's other words
+-- ---- the claim
 
 -- a delete: of one row (kind 3), or of every row found (kind 10)
 pub data Deletes : Call → Type 0 where
@@ -86,6 +92,15 @@ areaBound s ws = deleteBound s (view s ws .work .tabs)
 -- the journal records of an area that are free
 unfoldable pub freeRecords : Schema → List ℤ → ℕ
 freeRecords s ws = s .room - natOf (getD ws 2 𝟘)
+
+-- the answer to a delete, where the sum is n: it "changes at most as many rows" (refused, none), and where so many records are free it "is never refused 15"
+pub record WithinBound (n free : ℕ) (a : Answer) : Type 0 where
+  pub few : shown a .1 ≤ n
+  pub never-full : n ≤ free → a ≢ Refused JournalFull
+
+-- "Show it": of every delete, on every area, damaged ones too
+abbrev pub BoundsDeletes : List ℕ → Type 0
+BoundsDeletes bs = (c ws : List ℤ) → Deletes (parse c) → WithinBound (areaBound (schemaOf bs) ws) (freeRecords (schemaOf bs) ws) (callOn bs c ws .0)
 
 -- ---- the answer
 
