@@ -1,4 +1,5 @@
 pub mod Tests
+pub mod Members
 pub mod CountLaws
 pub mod LoopLaws
 pub mod Shapes
@@ -16,9 +17,12 @@ pub mod UndoWords
 pub mod LevelWords
 pub mod ClearWords
 pub mod Bits
+pub mod StateBits
+pub mod RowImages
 pub mod HoldLaws
 pub mod SoundLaws
 pub mod KeyLaws
+pub mod KeyColumns
 pub mod WindowLaws
 pub mod MapLaws
 pub mod NullKeys

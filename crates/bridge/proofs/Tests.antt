@@ -3,10 +3,10 @@
 use mathlib.Core.Path.{_≡_, refl}
 use mathlib.Core.Bool.{Bool, true, false, not, _&&_, _||_, false≢true}
 use mathlib.Core.List.{List, [], _∷_, _++_}
-use Prim.Native.Nat.{ℕ, zero, suc, _+_, _≤_}
+use Prim.Native.Nat.{ℕ, zero, suc, _+_, _≤_, _<_}
 use native.Mathlib.Omega.{arith}
 use lib.Dec.{T, ltb, lt→ltb}
-use lib.ListN.{drop}
+use lib.ListN.{length, getD, drop}
 use Rattle.rules.specs.Lists.{upFrom}
 use Rattle.schema.specs.Ranges.{all}
 
@@ -67,6 +67,19 @@ module _ {A : Type 0} (p : A → Bool) where
   pub all-append : (xs ys : List A) → all p xs ≡ true → all p ys ≡ true → all p (xs ++ ys) ≡ true
   all-append [] ys h k = k
   all-append (x ∷ xs) ys h k = all-cons x (xs ++ ys) (all-head x xs h) (all-append xs ys (all-tail x xs h) k)
+
+  pub all-split : (xs ys : List A) → all p (xs ++ ys) ≡ true → (all p xs ≡ true) × (all p ys ≡ true)
+  unfolding all
+  all-split [] ys h = (refl, h)
+  all-split (x ∷ xs) ys h =
+      let rest = all-split xs ys (all-tail x (xs ++ ys) h) in
+      (all-cons x xs (all-head x (xs ++ ys) h) (rest .0), rest .1)
+
+  -- place by place
+  pub all-places : (d : A) (xs : List A) → ((i : ℕ) → i < length xs → p (getD xs i d) ≡ true) → all p xs ≡ true
+  unfolding all
+  all-places d [] h = refl
+  all-places d (x ∷ xs) h = all-cons x xs (h 0 (omega arith)) (all-places d xs (λ i l. h (suc i) (omega arith)))
 
   pub all-drop : (n : ℕ) (xs : List A) → all p xs ≡ true → all p (drop n xs) ≡ true
   all-drop zero xs h = h

@@ -2,32 +2,27 @@
 -- Assumes nothing.
 use mathlib.Core.Path.{_≡_, refl, sym, _∙_, ap, ap₂, subst}
 use mathlib.Core.Bool.{Bool, true, false, not, _&&_, and-comm}
-use mathlib.Core.List.{List, [], _∷_, _++_, map}
+use mathlib.Core.List.{List, [], _∷_, _++_, map, append-assoc}
 use mathlib.Core.Logic.{_≢_}
-use Prim.Native.Nat.{ℕ, zero, suc, _+_, _<_}
-use native.Mathlib.Omega.{arith}
-use borrow.Author.Tests.{lt-ltb}
+use Prim.Native.Nat.{ℕ, zero, suc}
 use lib.Dec.{ltb}
 use lib.IntN.{ℤ}
-use lib.ListN.{length, getD}
-use lib.Seq.{getD-take}
+use lib.ListN.{getD}
 use lib.Signed.{ltZ}
-use Rattle.schema.specs.Bytes
 use Rattle.schema.specs.Ranges.{all}
 use Rattle.schema.specs.Records.{Window, ForeignKey, keyOf, tableOf, uniqueColumns, parentKey}
 use Rattle.schema.specs.declared.SchemaAnswer.the-variants.{Accepted}
-use Rattle.schema.specs.Fields
 use Rattle.schema.specs.Fields.{schemaOf}
 use Rattle.schema.specs.Check.{checkSchema}
 use Rattle.schema.proofs.RangeLaws.{and-left}
-use Rattle.schema.proofs.FieldLaws.{read-parent-columns, window-below}
 use Rattle.rules.specs.Lists.{any, except}
 use Rattle.rules.specs.Rows.{Row, live, nullAt}
 use Rattle.rules.specs.Keys.{fullKey, firstDay, endDay, sharesDay, sameParent}
 use Rattle.rules.specs.Change.{clashes}
-use Rattle.bridge.proofs.Tests.{all-cons, all-head, all-tail}
+use Rattle.bridge.proofs.Tests.{all-head, all-tail, all-split}
 use Rattle.bridge.proofs.CountLaws.{any-neither}
 use Rattle.bridge.proofs.KeyLaws.{key-sym}
+use Rattle.bridge.proofs.KeyColumns.{parent-key-in}
 use Rattle.laws.specs.Windows.{Windowed}
 
 -- ---- lists
@@ -48,18 +43,6 @@ module _ {A : Type 0} (p : A → Bool) where
   none-but d e (x ∷ xs) (suc r) h zero n = any-neither p x (except r xs) h .0
   none-but d e (x ∷ xs) (suc r) h (suc i) n = none-but d e xs r (any-neither p x (except r xs) h .1) i (λ q. n (ap suc q))
 
-  all-split : (xs ys : List A) → all p (xs ++ ys) ≡ true → (all p xs ≡ true) × (all p ys ≡ true)
-  unfolding all
-  all-split [] ys h = (refl, h)
-  all-split (x ∷ xs) ys h =
-      let rest = all-split xs ys (all-tail p x (xs ++ ys) h) in
-      (all-cons p x xs (all-head p x (xs ++ ys) h) (rest .0), rest .1)
-
-  all-places : (d : A) (xs : List A) → ((i : ℕ) → i < length xs → p (getD xs i d) ≡ true) → all p xs ≡ true
-  unfolding all
-  all-places d [] h = refl
-  all-places d (x ∷ xs) h = all-cons p x xs (h 0 (omega arith)) (all-places d xs (λ i l. h (suc i) (omega arith)))
-
 -- ---- the columns of an unbroken windowed key are in its parent table
 module _ (bs : List ℕ) (acc : checkSchema bs ≡ Accepted) {k : ℕ} {w : Window} (q : Windowed (schemaOf bs) k w) where
   abbrev key : ForeignKey
@@ -68,30 +51,22 @@ module _ (bs : List ℕ) (acc : checkSchema bs ≡ Accepted) {k : ℕ} {w : Wind
   abbrev inParent : ℕ → Bool
   inParent c = ltb c (tableOf (schemaOf bs) (key .parent) .columns)
 
-  unique-in : all inParent (uniqueColumns key) ≡ true
-  unique-in = all-places inParent 0 (uniqueColumns key) at
-    where
-      columns : List ℕ
-      columns = Bytes.four bs (Fields.keyStart bs k + 10)
-
-      at : (i : ℕ) → i < length (uniqueColumns key) → inParent (getD (uniqueColumns key) i 0) ≡ true
-      at i l =
-          let r = read-parent-columns bs acc k (q .there) (q .unbroken) {r = columns} refl in
-          let is : getD (uniqueColumns key) i 0 ≡ getD columns i 0 = ap (λ (cs : List ℕ). getD cs i 0) (sym (r .0)) ∙ getD-take (length (uniqueColumns key)) columns i 0 l in
-          lt-ltb (getD (uniqueColumns key) i 0) (tableOf (schemaOf bs) (key .parent) .columns) (omega (arith, is, r .1 .within i l))
-
-  pairs-split : (all inParent (key .parentColumns) ≡ true) × (all inParent (w .first ∷ []) ≡ true)
-  unfolding uniqueColumns
-  pairs-split = all-split inParent (key .parentColumns) (w .first ∷ []) (subst (λ (ws : List Window). all inParent (key .parentColumns ++ map (λ v. v .first) ws) ≡ true) (q .window) unique-in)
+  -- those of the pairs, then the first day's and the end's
+  parts : (all inParent (key .parentColumns) ≡ true) × (all inParent (w .first ∷ suc (w .first) ∷ []) ≡ true)
+  unfolding parentKey uniqueColumns
+  parts =
+      all-split inParent (key .parentColumns) (w .first ∷ suc (w .first) ∷ [])
+      (ap (all inParent) (sym (append-assoc (key .parentColumns) (w .first ∷ []) (suc (w .first) ∷ [])))
+      ∙ subst (λ (ws : List Window). all inParent ((key .parentColumns ++ map (λ v. v .first) ws) ++ map (λ v. suc (v .first)) ws) ≡ true) (q .window) (parent-key-in bs acc k (q .there) (q .unbroken)))
 
   pub pairs-in : all inParent (keyOf (schemaOf bs) k .parentColumns) ≡ true
-  pairs-in = pairs-split .0
+  pairs-in = parts .0
 
   pub first-in : inParent (w .first) ≡ true
-  first-in = all-head inParent (w .first) [] (pairs-split .1)
+  first-in = all-head inParent (w .first) (suc (w .first) ∷ []) (parts .1)
 
   pub end-in : inParent (suc (w .first)) ≡ true
-  end-in = lt-ltb (suc (w .first)) (tableOf (schemaOf bs) (key .parent) .columns) (window-below bs acc k (q .there) (q .unbroken) w (q .window) .1)
+  end-in = all-head inParent (suc (w .first)) [] (all-tail inParent (w .first) (suc (w .first) ∷ []) (parts .1))
 
 -- ---- either way round
 

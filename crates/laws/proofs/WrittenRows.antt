@@ -1,7 +1,7 @@
 -- A row that is written: where it stands, and its words, which are those of the image up to the table's last column.
 -- Assumes nothing.
 use mathlib.Core.Path.{_≡_, refl, _∙_, ap, ap₂}
-use mathlib.Core.Bool.{Bool, true, false, not, _&&_, false≢true}
+use mathlib.Core.Bool.{Bool, true, false, not, _&&_}
 use mathlib.Core.List.{List, [], _∷_}
 use mathlib.Core.Logic.{_≢_}
 use Prim.Native.Nat.{ℕ, zero, suc, _<_, _≤_}
@@ -20,6 +20,7 @@ use Rattle.rules.specs.Rows.{Row, Tables, rowAt, putRow, overwrite, live, liveS
 use Rattle.rules.specs.Keys.{sameCell, sameKey, fullKey}
 use Rattle.bridge.proofs.Tests.{all-head, all-tail}
 use Rattle.bridge.proofs.Shapes.{Shaped, length-overwrite}
+use Rattle.bridge.proofs.RowImages.{over-get, live-long}
 use Rattle.bridge.proofs.CountBounds.{rows-at}
 use Rattle.bridge.proofs.RowWords.{row-width}
 
@@ -65,20 +66,6 @@ module _ (tabs : Tables) (t r : ℕ) (new : Row) where
       by false b e f = stays (put-table tabs t r u i _ (eqb-false u t e))
 
 -- ---- its words
-
-over-get : (x new : Row) (i : ℕ) → i < length x → getD (overwrite x new) i 𝟘 ≡ getD new i 𝟘
-unfolding overwrite
-over-get [] new i h = absurd (omega arith)
-over-get (w ∷ x) [] zero h = refl
-over-get (w ∷ x) [] (suc i) h = over-get x [] i (omega arith)
-over-get (w ∷ x) (v ∷ new) zero h = refl
-over-get (w ∷ x) (v ∷ new) (suc i) h = over-get x new i (omega arith)
-
--- a live row has words
-live-long : (x : Row) → live x ≡ true → 0 < length x
-unfolding live liveState natOf
-live-long [] e = absurd (false≢true e)
-live-long (w ∷ x) e = omega arith
 
 row-there : (rows : List Row) (r : ℕ) → 0 < length (getD rows r []) → r < length rows
 row-there [] r h = absurd (omega arith)

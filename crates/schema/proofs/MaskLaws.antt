@@ -13,13 +13,13 @@ use lib.Dec.{eqb, ltb}
 use Rattle.schema.specs.Bytes.{bit, columnMask}
 use Rattle.schema.specs.Marks.{marked, Marks}
 
-bit-suc : (c m : ℕ) → bit (suc c) m ≡ bit c (m / 2)
+pub bit-suc : (c m : ℕ) → bit (suc c) m ≡ bit c (m / 2)
 unfolding bit
 bit-suc c m =
     let e : m / 2 / 2 ^ c ≡ m / 2 ^ suc c = div-div-eq-div-mul m 2 (2 ^ c) ∙ ap (λ (x : ℕ). m / x) (mul-comm 2 (2 ^ c) ∙ sym (pow-suc 2 c)) in
     ap (λ (x : ℕ). eqb (x % 2) 1) (sym e)
 
-bit-zero : (m : ℕ) → bit 0 m ≡ eqb (m % 2) 1
+pub bit-zero : (m : ℕ) → bit 0 m ≡ eqb (m % 2) 1
 unfolding bit
 bit-zero m = ap (λ (x : ℕ). eqb (x % 2) 1) (div-one m)
 
