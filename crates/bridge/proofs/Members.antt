@@ -11,6 +11,7 @@ use Rattle.schema.specs.ParentKey.{Mem}
 use Rattle.schema.specs.Ranges.{all}
 use Rattle.rules.specs.Lists.{any}
 use Rattle.bridge.proofs.Tests.{all-head, all-tail}
+use Rattle.bridge.proofs.CountLaws.{any-neither}
 
 module _ {A : Type 0} (x : A) where
   -- a member stands at a place
@@ -57,3 +58,10 @@ module _ {A : Type 0} (x : A) where
     all-mem [] h m = absurd m
     all-mem (y ∷ xs) h (inl e) = ap p e ∙ all-head p y xs h
     all-mem (y ∷ xs) h (inr m) = all-mem xs (all-tail p y xs h) m
+
+    -- none passes, so no member does
+    pub none-mem : (xs : List A) → any p xs ≡ false → Mem x xs → p x ≡ false
+    unfolding Mem
+    none-mem [] h m = absurd m
+    none-mem (y ∷ xs) h (inl e) = ap p e ∙ any-neither p y xs h .0
+    none-mem (y ∷ xs) h (inr m) = none-mem xs (any-neither p y xs h .1) m

@@ -1,0 +1,6 @@
+pub mod KeyShapes
+pub mod ClearedColumns
+pub mod BoundLaws
+pub mod ClearedRow
+pub mod Falling
+pub mod DeleteBound
