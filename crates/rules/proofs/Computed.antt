@@ -15,12 +15,13 @@ use Rattle.rules.specs.Area.{levelWords, entryWords, words, levelOf, ent
 use Rattle.rules.specs.Book.{Book, undoOne, undoAll, undo, undoTo, emptied, cleared, push, close, backTo, back, ended, firstKept, abort}
 use Rattle.rules.specs.Calls.{formedIf, parsed, parse, inTable, rowFits, inColumns, seeksNull, setsNull, valueFits, levelNumber, allowed}
 use Rattle.rules.specs.Change.{then, given, inTurn, notNullBroken, twice, maskBroken, uniqueBroken, clashes, windowBroken, badWindow, admits, admitted, flag, setCell, fillsNull, filler, refilled, childImage, cascaded, actionOf, taken, rowTurn, children, keyTurn, actions, change}
+use Rattle.rules.specs.DeleteBound.{isSetNull, clears, clearable, rowBound, rowsBound, tablesBound, deleteBound, inParentKey, boundedKey, bounded, areaBound, boundAnswer}
 use Rattle.rules.specs.Engine.{underSchema, callOn, runOn}
 use Rattle.rules.specs.Found.{cellIs, isFound, rowSet, foundTurn, rowsFound}
 use Rattle.rules.specs.Keys.{sameCell, sameKey, fullKey, halfKey, maskColumnsFrom, maskColumns, firstDay, endDay, isWithin, sharesDay, inWindow, sameWindow, mapsTo, halfDue, due, serves, orphan, orphans, counts, takes, sameParent, sameParentKey, fires, uses, usesBroken}
 use Rattle.rules.specs.Lists.{any, count, except, flat, chunks, one, upFrom, sum, less, plus}
 use Rattle.rules.specs.OrphanList.{orphanTotal, recordIf, orphanRows, orphansFrom, orphanList, listVerdict, listed, listAnswer, lentAfter, listOrphans}
-use Rattle.rules.specs.Questions.{schemaVerdict, areaVerdict}
+use Rattle.rules.specs.Questions.{schemaVerdict, areaVerdict, numberAnswer}
 use Rattle.rules.specs.Refusals.{number, shown, accepted, failing}
 use Rattle.rules.specs.Rows.{rowAt, putRow, overwrite, image, deletedImage, liveState, live, nullAt, valueAt, maskOf, held, liveImage, normal}
 use Rattle.rules.specs.State.{inTransaction, openerFits, keptInRange, savedInRange, usesRise, placed, undamaged, levelOpen}
@@ -29,6 +30,7 @@ use Rattle.rules.specs.Step.{opened, openerOf, committed, released, roll
 use Rattle.rules.specs.Strike.{place, mark, marks, strike, callsOf}
 use Rattle.rules.specs.Values.{sameWord, sameWords, raised, eachByte, folded, sameValue, allZero, natOf, natural, inRange}
 use Rattle.rules.specs.declared.Listed.{Listed}
+use Rattle.rules.specs.declared.Numbered.{Numbered}
 use Rattle.rules.specs.declared.Orphan.{Orphan}
 
 -- code, rows changed, net, of each call
@@ -56,6 +58,16 @@ unfoldable pub onArea : Turns
 unfolding onBook startsWith headerRest headerRules maskRule sizeRules tableRest tableRules newColumn columnsRule windowedRule codeRules keyRest keyRules wellFormed checkSchema tableSize rowsSize areaSize naturalHead legible ensure areaStep underSchema callOn
 onArea bs ws cs = runOn bs cs ws
 
+-- how much one delete can touch, on an area's words
+unfoldable pub boundOn : List ℕ → List ℤ → Numbered
+unfolding boundAnswer areaBound numberAnswer areaVerdict schemaVerdict deleteBound tablesBound rowsBound rowBound clearable clears isSetNull bit startsWith headerRest headerRules maskRule sizeRules tableRest tableRules columnRule newColumn columnsRule windowedRule codeRules keyRest keyRules wellFormed checkSchema tableFrom actionFrom matchFrom uniqueIs hasParentKey hasEnd isBroken keyFolds keyWindows columnMask foldsOf keyFrom schemaOf allFrom anyFrom andAll every listFrom all tableSize rowsSize areaSize levelOf entryOf tablesOf levelPart rowPart recordPart view naturalHead legible inTable childKey any count flat chunks upFrom number failing liveState live nullAt inTransaction openerFits keptInRange savedInRange usesRise placed undamaged sameWord natOf natural inRange
+boundOn bs ws = boundAnswer bs ws
+
+-- whether a schema is one that the claim about deletes is about
+unfoldable pub boundedBytes : List ℕ → Bool
+unfolding bounded boundedKey inParentKey bit columnRule tableFrom actionFrom matchFrom uniqueIs hasParentKey hasEnd isBroken keyFolds keyWindows columnMask foldsOf keyFrom schemaOf allFrom anyFrom andAll every listFrom all childKey uniqueColumns parentKey any
+boundedBytes bs = bounded (schemaOf bs)
+
 module _ (turns : Turns) where
   -- calls on a fresh area
   unfoldable pub ran : List ℕ → List (List ℤ) → List Logged × List ℤ
@@ -66,6 +78,11 @@ module _ (turns : Turns) where
   unfoldable pub answers : List ℕ → List (List ℤ) → Shown
   unfolding ran show
   answers bs cs = show (ran bs cs .0)
+
+  -- the answers of calls on the area that others led to
+  unfoldable pub answersThen : List ℕ → List (List ℤ) → List (List ℤ) → Shown
+  unfolding ran show
+  answersThen bs cs ds = show (turns bs (ran bs cs .1) ds .0)
 
   -- the answers of calls on a fresh area whose word n is set to v
   unfoldable pub answersWith : List ℕ → ℕ → ℤ → List (List ℤ) → Shown
@@ -91,3 +108,8 @@ module _ (turns : Turns) where
   unfoldable pub listedAfter : List ℕ → List (List ℤ) → List Orphan → Listed × List Orphan
   unfolding ran listOrphans lentAfter orphanList orphansFrom orphanRows recordIf listAnswer listed listVerdict areaVerdict schemaVerdict orphanTotal bit startsWith headerRest headerRules maskRule sizeRules tableRest tableRules columnRule newColumn columnsRule windowedRule codeRules keyRest keyRules wellFormed checkSchema tableFrom actionFrom matchFrom uniqueIs hasParentKey hasEnd isBroken keyFolds keyWindows columnMask foldsOf keyFrom schemaOf allFrom anyFrom andAll every listFrom all tableSize rowsSize tableOffset areaSize levelOf entryOf tablesOf levelPart rowPart recordPart view naturalHead legible inTable sameCell sameKey fullKey halfKey childKey uniqueColumns parentKey firstDay endDay isWithin sharesDay inWindow sameWindow mapsTo halfDue due serves orphan orphans any count except flat chunks one number failing rowAt liveState live nullAt valueAt inTransaction openerFits keptInRange savedInRange usesRise placed undamaged raised eachByte folded sameValue sameWord natOf natural inRange
   listedAfter bs cs before = listOrphans bs (ran bs cs .1) before
+
+  -- how much one delete can touch on the last area
+  unfoldable pub boundAfter : List ℕ → List (List ℤ) → Numbered
+  unfolding ran boundOn
+  boundAfter bs cs = boundOn bs (ran bs cs .1)

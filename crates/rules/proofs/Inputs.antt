@@ -64,6 +64,25 @@ unfoldable pub twoKeys : ℕ → ℕ → List ℕ
 unfolding schemaBytes tableBytes keyBytes
 twoKeys first second = schemaBytes 2 2 8 (tableBytes 2 1 1 1 ++ tableBytes 2 1 0 0 ++ keyBytes 1 0 0 0 0 first first ++ keyBytes 1 0 0 0 0 second second)
 
+-- three keys from the columns of table 1 to table 0, with these actions and journal room j
+unfoldable pub threeKeys : ℕ → ℕ → ℕ → ℕ → List ℕ
+unfolding schemaBytes tableBytes keyBytes
+threeKeys a b c j =
+    schemaBytes 2 3 j (tableBytes 2 1 1 1 ++ tableBytes 2 3 0 0 ++ keyBytes 1 0 0 0 0 a a ++ keyBytes 1 1 0 0 0 b b ++ keyBytes 1 2 0 0 0 c c)
+
+-- table 1 follows table 0 by its own parent key, SET NULL, and the three columns of table 2 follow that on update
+unfoldable pub clearedParent : List ℕ
+unfolding schemaBytes tableBytes keyBytes
+clearedParent =
+    schemaBytes 3 4 8
+    (tableBytes 2 1 1 1
+    ++ tableBytes 2 1 0 1
+    ++ tableBytes 2 3 0 0
+    ++ keyBytes 1 0 0 0 0 2 2
+    ++ keyBytes 2 0 1 0 0 0 2
+    ++ keyBytes 2 1 1 0 0 0 2
+    ++ keyBytes 2 2 1 0 0 0 2)
+
 -- two deferred keys from table 1 to table 0, the first by column 1 and the second by column 0
 unfoldable pub crossedKeys : List ℕ
 unfolding schemaBytes tableBytes keyBytes
@@ -87,6 +106,11 @@ eitherMatch = schemaBytes 2 2 8 (tableBytes 2 2 0 3 ++ tableBytes 4 2 0 0 ++ pai
 unfoldable pub halfDrawn : ℕ → ℕ → List ℕ
 unfolding schemaBytes tableBytes keyBytes
 halfDrawn action room = schemaBytes 3 2 room (tableBytes 2 1 1 1 ++ tableBytes 2 2 1 0 ++ tableBytes 2 1 1 0 ++ keyBytes 1 1 0 0 1 action action ++ keyBytes 2 0 1 0 1 4 4)
+
+-- trims that follow their horse by a key that is broken, SET NULL: no unique key is drawn on horses
+unfoldable pub brokenSetNull : List ℕ
+unfolding schemaBytes tableBytes keyBytes
+brokenSetNull = schemaBytes 2 1 8 (tableBytes 2 1 1 0 ++ tableBytes 2 2 1 1 ++ keyBytes 1 1 0 0 1 2 2)
 
 -- three tables of one unique column: one for a column 255 of a table 200, one for its own column 1
 unfoldable pub notDrawn : List ℕ
@@ -121,6 +145,17 @@ calibrations folds deferred action match =
 unfoldable pub endless : List ℕ
 unfolding schemaBytes tableBytes
 endless = schemaBytes 2 1 8 (tableBytes 2 2 0 3 ++ tableBytes 2 2 0 0 ++ (1 ∷ 0 ∷ 0 ∷ 1 ∷ 1 ∷ 2 ∷ 0 ∷ 1 ∷ 255 ∷ 255 ∷ 0 ∷ 1 ∷ 255 ∷ 255 ∷ 0 ∷ 1 ∷ []))
+
+-- calibrations that follow a trim by their end, SET NULL; it belongs to the window that readings are tied by
+unfoldable pub clearedEnd : List ℕ
+unfolding schemaBytes tableBytes keyBytes
+clearedEnd =
+    schemaBytes 3 2 8
+    (tableBytes 2 3 0 3
+    ++ tableBytes 2 2 0 0
+    ++ tableBytes 2 1 1 1
+    ++ (1 ∷ 0 ∷ 0 ∷ 0 ∷ 0 ∷ 2 ∷ 0 ∷ 1 ∷ 255 ∷ 255 ∷ 0 ∷ 1 ∷ 255 ∷ 255 ∷ 0 ∷ 1 ∷ [])
+    ++ keyBytes 0 2 2 0 0 2 2)
 
 -- ---- calls, as twelve words
 

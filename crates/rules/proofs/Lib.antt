@@ -10,3 +10,4 @@ pub mod MatchFull
 pub mod BrokenKeys
 pub mod FoldedColumns
 pub mod Windows
+pub mod DeleteBounds

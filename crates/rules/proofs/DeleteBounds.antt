@@ -1,0 +1,150 @@
+-- Worked examples of how much one delete can touch: the sum is reached, and the claim needs its conditions.
+-- Assumes nothing.
+use mathlib.Core.Path.{_≡_, refl}
+use mathlib.Core.Bool.{Bool, true, false}
+use mathlib.Core.List.{List, [], _∷_, map}
+use Prim.Native.Nat.{ℕ}
+use lib.IntN.{ℤ, pos}
+use lib.ListN.{set, replicate}
+use Rattle.rules.specs.declared.Numbered.{Numbered}
+use Rattle.rules.proofs.Inputs.{schemaS, twoKeys, threeKeys, clearedParent, clearedEnd, brokenSetNull, calibrations, insert, delete, deleteWhere}
+use Rattle.rules.proofs.Computed.{Turns, onBook, boundOn, boundedBytes, answersThen, boundAfter}
+use Rattle.rules.proofs.PaperCases.{changed, refused}
+
+-- schema bytes, calls from a fresh area, the sum then, and a delete sent next with its answer; whether the claim is about such schemas
+pub record BoundCase : Type 0 where
+  pub schema : List ℕ
+  pub sent : List (List ℤ)
+  pub sum : ℕ
+  pub next : List ℤ
+  pub answered : ℕ × ℕ × ℤ
+  pub claimed : Bool
+
+-- an answer of one number
+abbrev pub number : ℕ → Numbered
+number n = record { code = pos 0; number = pos n }
+
+abbrev pub refusedBy : ℕ → Numbered
+refusedBy c = record { code = pos c; number = pos 0 }
+
+-- a row of table 1 whose three columns refer to the row of table 0
+unfoldable pub threefold : List (List ℤ)
+unfolding insert
+threefold = insert 0 0 0 (pos 7 ∷ []) ∷ insert 1 0 0 (pos 7 ∷ pos 7 ∷ pos 7 ∷ []) ∷ []
+
+unfoldable pub boundCases : List BoundCase
+unfolding schemaS twoKeys threeKeys clearedParent clearedEnd calibrations threefold insert delete deleteWhere
+boundCases =
+    -- a fresh area: vacant rows do not count
+    record { schema = schemaS; sent = []; sum = 0; next = delete 0 0; answered = refused 11; claimed = true }
+    -- CASCADE: each live row counts 1
+    ∷ record {
+      schema = schemaS;
+      sent = insert 0 0 0 (pos 5 ∷ []) ∷ insert 1 0 0 (pos 11 ∷ pos 5 ∷ []) ∷ [];
+      sum = 2;
+      next = delete 0 0;
+      answered = changed 2;
+      claimed = true;
+    }
+    -- the sum is reached: two columns are set NULL one after the other, then the row is deleted. With one record less that is 15
+    ∷ record { schema = threeKeys 2 2 4 4; sent = threefold; sum = 4; next = delete 0 0; answered = changed 4; claimed = true }
+    ∷ record { schema = threeKeys 2 2 4 3; sent = threefold; sum = 4; next = delete 0 0; answered = refused 15; claimed = true }
+    -- a column that is NULL does not count
+    ∷ record {
+      schema = threeKeys 2 2 4 8;
+      sent = insert 0 0 0 (pos 7 ∷ []) ∷ insert 1 0 1 (pos 0 ∷ pos 7 ∷ pos 7 ∷ []) ∷ [];
+      sum = 3;
+      next = delete 0 0;
+      answered = changed 3;
+      claimed = true;
+    }
+    -- "each column once": two keys share it
+    ∷ record { schema = twoKeys 2 2; sent = insert 0 0 0 (pos 7 ∷ []) ∷ insert 1 1 0 (pos 7 ∷ []) ∷ []; sum = 3; next = delete 0 0; answered = changed 2; claimed = true }
+    -- kind 10: two rows of the second table are found
+    ∷ record {
+      schema = threeKeys 2 2 4 8;
+      sent = insert 0 0 0 (pos 7 ∷ []) ∷ insert 1 0 1 (pos 0 ∷ pos 7 ∷ pos 7 ∷ []) ∷ insert 1 1 3 (pos 0 ∷ pos 0 ∷ pos 7 ∷ []) ∷ [];
+      sum = 4;
+      next = deleteWhere 1 2 0 (pos 7);
+      answered = changed 2;
+      claimed = true;
+    }
+    -- a windowed key: each live row counts 1
+    ∷ record {
+      schema = calibrations 0 0 1 0;
+      sent = insert 0 0 0 (pos 7 ∷ pos 10 ∷ pos 20 ∷ []) ∷ insert 1 0 0 (pos 7 ∷ pos 15 ∷ []) ∷ insert 1 1 0 (pos 7 ∷ pos 16 ∷ []) ∷ [];
+      sum = 3;
+      next = deleteWhere 1 0 0 (pos 7);
+      answered = changed 2;
+      claimed = true;
+    }
+    -- the claim is not about SET DEFAULT: the row is changed once for each of the three keys, and counts 1
+    ∷ record {
+      schema = threeKeys 3 3 3 8;
+      sent = insert 0 0 0 (pos 7 ∷ []) ∷ insert 0 1 0 (pos 0 ∷ []) ∷ insert 1 0 0 (pos 7 ∷ pos 7 ∷ pos 7 ∷ []) ∷ [];
+      sum = 3;
+      next = delete 0 0;
+      answered = changed 4;
+      claimed = false;
+    }
+    -- nor about a SET NULL child column in a parent key: what refers to that key is changed too
+    ∷ record {
+      schema = clearedParent;
+      sent = insert 0 0 0 (pos 7 ∷ []) ∷ insert 1 0 0 (pos 7 ∷ []) ∷ insert 2 0 0 (pos 7 ∷ pos 7 ∷ pos 7 ∷ []) ∷ [];
+      sum = 4;
+      next = delete 0 0;
+      answered = changed 5;
+      claimed = false;
+    }
+    -- nor about one in a window, though a window's key changes no row
+    ∷ record {
+      schema = clearedEnd;
+      sent = insert 2 0 0 (pos 20 ∷ []) ∷ insert 0 0 0 (pos 7 ∷ pos 10 ∷ pos 20 ∷ []) ∷ [];
+      sum = 3;
+      next = delete 2 0;
+      answered = changed 2;
+      claimed = false;
+    }
+    ∷ []
+
+-- the sums
+abbrev pub SumsHold : Turns → Type 0
+SumsHold turns = map (λ (c : BoundCase). boundAfter turns (c .schema) (c .sent)) boundCases ≡ map (λ (c : BoundCase). number (c .sum)) boundCases
+
+pub sums-hold : SumsHold onBook
+unfolding onBook boundAfter boundCases
+sums-hold = refl
+
+-- the deletes sent next
+abbrev pub DeletesHold : Turns → Type 0
+DeletesHold turns = map (λ (c : BoundCase). answersThen turns (c .schema) (c .sent) (c .next ∷ [])) boundCases ≡ map (λ (c : BoundCase). c .answered ∷ []) boundCases
+
+pub deletes-hold : DeletesHold onBook
+unfolding onBook answersThen boundCases
+deletes-hold = refl
+
+-- the schemas
+pub claimed-hold : map (λ (c : BoundCase). boundedBytes (c .schema)) boundCases ≡ map (λ (c : BoundCase). c .claimed) boundCases
+unfolding boundedBytes boundCases
+claimed-hold = refl
+
+-- refused by 1, 3 and 10
+pub bound-refused :
+    boundOn [] [] ∷ boundOn schemaS (replicate 432 (pos 0)) ∷ boundOn schemaS (set (replicate 433 (pos 0)) 3 (pos 1)) ∷ []
+    ≡ refusedBy 1 ∷ refusedBy 3 ∷ refusedBy 10 ∷ []
+unfolding boundOn schemaS
+bound-refused = refl
+
+-- ---- one live row (word 337 is the state of row 0 of table 1)
+
+-- a column of two keys counts once
+pub shared-column : boundOn (twoKeys 2 2) (set (replicate 421 (pos 0)) 337 (pos 256)) ≡ number 2
+unfolding boundOn twoKeys
+shared-column = refl
+
+-- that of a broken key counts too, unless it is NULL
+pub broken-counted :
+    boundOn brokenSetNull (set (replicate 423 (pos 0)) 337 (pos 256)) ∷ boundOn brokenSetNull (set (replicate 423 (pos 0)) 337 (pos 258)) ∷ []
+    ≡ number 2 ∷ number 1 ∷ []
+unfolding boundOn brokenSetNull
+broken-counted = refl
