@@ -23,7 +23,7 @@ use Rattle.rules.specs.Lists.{any, count, except, flat, chunks, one, upF
 use Rattle.rules.specs.OrphanList.{orphanTotal, recordIf, orphanRows, orphansFrom, orphanList, listVerdict, listed, listAnswer, lentAfter, listOrphans}
 use Rattle.rules.specs.Questions.{schemaVerdict, areaVerdict, numberAnswer}
 use Rattle.rules.specs.Refusals.{number, shown, accepted, failing}
-use Rattle.rules.specs.Rows.{rowAt, putRow, overwrite, image, deletedImage, liveState, live, nullAt, valueAt, maskOf, held, liveImage, normal}
+use Rattle.rules.specs.Rows.{Tables, rowAt, putRow, overwrite, image, deletedImage, liveState, live, nullAt, valueAt, maskOf, held, liveImage, normal}
 use Rattle.rules.specs.State.{inTransaction, openerFits, keptInRange, savedInRange, usesRise, placed, undamaged, levelOpen}
 use Rattle.rules.specs.Statement.{check, demand, immediateZero, enforced, journalAfter, afterStatement, settle, conclude, statement, rowStatement}
 use Rattle.rules.specs.Step.{opened, openerOf, committed, released, rolled, act, step, runAll, Logged, run}
@@ -58,9 +58,14 @@ unfoldable pub onArea : Turns
 unfolding onBook startsWith headerRest headerRules maskRule sizeRules tableRest tableRules newColumn columnsRule windowedRule codeRules keyRest keyRules wellFormed checkSchema tableSize rowsSize areaSize naturalHead legible ensure areaStep underSchema callOn
 onArea bs ws cs = runOn bs cs ws
 
--- how much one delete can touch, on an area's words
+-- how much one delete can touch, in some tables
+unfoldable pub boundIn : List ℕ → Tables → ℕ
+unfolding deleteBound tablesBound rowsBound rowBound clearable clears isSetNull bit columnRule tableFrom actionFrom matchFrom uniqueIs hasParentKey hasEnd isBroken keyFolds keyWindows columnMask foldsOf keyFrom schemaOf allFrom anyFrom andAll every listFrom all childKey any count upFrom liveState live nullAt natOf
+boundIn bs tabs = deleteBound (schemaOf bs) tabs
+
+-- the same as an answer, on an area's words
 unfoldable pub boundOn : List ℕ → List ℤ → Numbered
-unfolding boundAnswer areaBound numberAnswer areaVerdict schemaVerdict deleteBound tablesBound rowsBound rowBound clearable clears isSetNull bit startsWith headerRest headerRules maskRule sizeRules tableRest tableRules columnRule newColumn columnsRule windowedRule codeRules keyRest keyRules wellFormed checkSchema tableFrom actionFrom matchFrom uniqueIs hasParentKey hasEnd isBroken keyFolds keyWindows columnMask foldsOf keyFrom schemaOf allFrom anyFrom andAll every listFrom all tableSize rowsSize areaSize levelOf entryOf tablesOf levelPart rowPart recordPart view naturalHead legible inTable childKey any count flat chunks upFrom number failing liveState live nullAt inTransaction openerFits keptInRange savedInRange usesRise placed undamaged sameWord natOf natural inRange
+unfolding boundIn boundAnswer areaBound numberAnswer areaVerdict schemaVerdict startsWith headerRest headerRules maskRule sizeRules tableRest tableRules newColumn columnsRule windowedRule codeRules keyRest keyRules wellFormed checkSchema tableSize rowsSize areaSize levelOf entryOf tablesOf levelPart rowPart recordPart view naturalHead legible inTable flat chunks number failing inTransaction openerFits keptInRange savedInRange usesRise placed undamaged sameWord natOf natural inRange
 boundOn bs ws = boundAnswer bs ws
 
 -- whether a schema is one that the claim about deletes is about

@@ -8,7 +8,7 @@ use lib.IntN.{ℤ, pos}
 use lib.ListN.{set, replicate}
 use Rattle.rules.specs.declared.Numbered.{Numbered}
 use Rattle.rules.proofs.Inputs.{schemaS, twoKeys, threeKeys, clearedParent, clearedEnd, brokenSetNull, calibrations, insert, delete, deleteWhere}
-use Rattle.rules.proofs.Computed.{Turns, onBook, boundOn, boundedBytes, answersThen, boundAfter}
+use Rattle.rules.proofs.Computed.{Turns, onBook, boundIn, boundOn, boundedBytes, answersThen, boundAfter}
 use Rattle.rules.proofs.PaperCases.{changed, refused}
 
 -- schema bytes, calls from a fresh area, the sum then, and a delete sent next with its answer; whether the claim is about such schemas
@@ -135,16 +135,21 @@ pub bound-refused :
 unfolding boundOn schemaS
 bound-refused = refl
 
--- ---- one live row (word 337 is the state of row 0 of table 1)
+-- ---- rows of table 1
+
+-- a vacant row does not count, whatever it holds
+pub vacant-rows : boundIn (twoKeys 2 2) ([] ∷ ((pos 0 ∷ pos 0 ∷ []) ∷ (pos 512 ∷ pos 7 ∷ []) ∷ []) ∷ []) ≡ 0
+unfolding boundIn twoKeys
+vacant-rows = refl
 
 -- a column of two keys counts once
-pub shared-column : boundOn (twoKeys 2 2) (set (replicate 421 (pos 0)) 337 (pos 256)) ≡ number 2
-unfolding boundOn twoKeys
+pub shared-column : boundIn (twoKeys 2 2) ([] ∷ ((pos 256 ∷ pos 7 ∷ []) ∷ []) ∷ []) ≡ 2
+unfolding boundIn twoKeys
 shared-column = refl
 
 -- that of a broken key counts too, unless it is NULL
 pub broken-counted :
-    boundOn brokenSetNull (set (replicate 423 (pos 0)) 337 (pos 256)) ∷ boundOn brokenSetNull (set (replicate 423 (pos 0)) 337 (pos 258)) ∷ []
-    ≡ number 2 ∷ number 1 ∷ []
-unfolding boundOn brokenSetNull
+    boundIn brokenSetNull ([] ∷ ((pos 256 ∷ pos 7 ∷ pos 5 ∷ []) ∷ []) ∷ []) ∷ boundIn brokenSetNull ([] ∷ ((pos 258 ∷ pos 7 ∷ pos 0 ∷ []) ∷ []) ∷ []) ∷ []
+    ≡ 2 ∷ 1 ∷ []
+unfolding boundIn brokenSetNull
 broken-counted = refl
