@@ -15,7 +15,7 @@ use Rattle.rules.specs.Area.{levelWords, entryWords, words, levelOf, ent
 use Rattle.rules.specs.Book.{Book, undoOne, undoAll, undo, undoTo, emptied, cleared, push, close, backTo, back, ended, firstKept, abort}
 use Rattle.rules.specs.Calls.{formedIf, parsed, parse, inTable, rowFits, inColumns, seeksNull, setsNull, valueFits, levelNumber, allowed}
 use Rattle.rules.specs.Change.{then, given, inTurn, notNullBroken, twice, maskBroken, uniqueBroken, clashes, windowBroken, badWindow, admits, admitted, flag, setCell, fillsNull, filler, refilled, childImage, cascaded, actionOf, taken, rowTurn, children, keyTurn, actions, change}
-use Rattle.rules.specs.DeleteBound.{isSetNull, clears, clearable, rowBound, rowsBound, tablesBound, deleteBound, inParentKey, boundedKey, bounded, areaBound, boundAnswer}
+use Rattle.rules.specs.DeleteBound.{isSetNull, clears, clearable, rowBound, rowsBound, tablesBound, deleteBound, inParentKey, boundedKey, bounded, areaBound, freeRecords, boundAnswer}
 use Rattle.rules.specs.Engine.{underSchema, callOn, runOn}
 use Rattle.rules.specs.Found.{cellIs, isFound, rowSet, foundTurn, rowsFound}
 use Rattle.rules.specs.Keys.{sameCell, sameKey, fullKey, halfKey, maskColumnsFrom, maskColumns, firstDay, endDay, isWithin, sharesDay, inWindow, sameWindow, mapsTo, halfDue, due, serves, orphan, orphans, counts, takes, sameParent, sameParentKey, fires, uses, usesBroken}
@@ -118,3 +118,8 @@ module _ (turns : Turns) where
   unfoldable pub boundAfter : List ℕ → List (List ℤ) → Numbered
   unfolding ran boundOn
   boundAfter bs cs = boundOn bs (ran bs cs .1)
+
+  -- and the journal records that are free then
+  unfoldable pub freeAfter : List ℕ → List (List ℤ) → ℕ
+  unfolding ran freeRecords schemaOf tableFrom keyFrom actionFrom matchFrom listFrom natOf
+  freeAfter bs cs = freeRecords (schemaOf bs) (ran bs cs .1)

@@ -7,15 +7,16 @@ use Prim.Native.Nat.{ℕ}
 use lib.IntN.{ℤ, pos}
 use lib.ListN.{set, replicate}
 use Rattle.rules.specs.declared.Numbered.{Numbered}
-use Rattle.rules.proofs.Inputs.{schemaS, twoKeys, threeKeys, clearedParent, clearedEnd, brokenSetNull, calibrations, insert, delete, deleteWhere}
-use Rattle.rules.proofs.Computed.{Turns, onBook, boundIn, boundOn, boundedBytes, answersThen, boundAfter}
+use Rattle.rules.proofs.Inputs.{schemaS, twoKeys, threeKeys, clearedParent, clearedEnd, brokenSetNull, calibrations, insert, delete, deleteWhere, begin}
+use Rattle.rules.proofs.Computed.{Turns, onBook, boundIn, boundOn, boundedBytes, answersThen, boundAfter, freeAfter}
 use Rattle.rules.proofs.PaperCases.{changed, refused}
 
--- schema bytes, calls from a fresh area, the sum then, and a delete sent next with its answer; whether the claim is about such schemas
+-- schema bytes, calls from a fresh area, the sum and the free journal records then, and a delete sent next with its answer; whether the claim is about such schemas
 pub record BoundCase : Type 0 where
   pub schema : List ℕ
   pub sent : List (List ℤ)
   pub sum : ℕ
+  pub free : ℕ
   pub next : List ℤ
   pub answered : ℕ × ℕ × ℤ
   pub claimed : Bool
@@ -33,38 +34,41 @@ unfolding insert
 threefold = insert 0 0 0 (pos 7 ∷ []) ∷ insert 1 0 0 (pos 7 ∷ pos 7 ∷ pos 7 ∷ []) ∷ []
 
 unfoldable pub boundCases : List BoundCase
-unfolding schemaS twoKeys threeKeys clearedParent clearedEnd calibrations threefold insert delete deleteWhere
+unfolding schemaS twoKeys threeKeys clearedParent clearedEnd calibrations threefold insert delete deleteWhere begin
 boundCases =
     -- a fresh area: vacant rows do not count
-    record { schema = schemaS; sent = []; sum = 0; next = delete 0 0; answered = refused 11; claimed = true }
+    record { schema = schemaS; sent = []; sum = 0; free = 8; next = delete 0 0; answered = refused 11; claimed = true }
     -- CASCADE: each live row counts 1
     ∷ record {
       schema = schemaS;
       sent = insert 0 0 0 (pos 5 ∷ []) ∷ insert 1 0 0 (pos 11 ∷ pos 5 ∷ []) ∷ [];
       sum = 2;
+      free = 8;
       next = delete 0 0;
       answered = changed 2;
       claimed = true;
     }
-    -- the sum is reached: two columns are set NULL one after the other, then the row is deleted. With one record less that is 15
-    ∷ record { schema = threeKeys 2 2 4 4; sent = threefold; sum = 4; next = delete 0 0; answered = changed 4; claimed = true }
-    ∷ record { schema = threeKeys 2 2 4 3; sent = threefold; sum = 4; next = delete 0 0; answered = refused 15; claimed = true }
+    -- the sum is reached: two columns are set NULL one after the other, then the row is deleted. With one free record less that is 15
+    ∷ record { schema = threeKeys 2 2 4 6; sent = begin ∷ threefold; sum = 4; free = 4; next = delete 0 0; answered = changed 4; claimed = true }
+    ∷ record { schema = threeKeys 2 2 4 5; sent = begin ∷ threefold; sum = 4; free = 3; next = delete 0 0; answered = refused 15; claimed = true }
     -- a column that is NULL does not count
     ∷ record {
       schema = threeKeys 2 2 4 8;
       sent = insert 0 0 0 (pos 7 ∷ []) ∷ insert 1 0 1 (pos 0 ∷ pos 7 ∷ pos 7 ∷ []) ∷ [];
       sum = 3;
+      free = 8;
       next = delete 0 0;
       answered = changed 3;
       claimed = true;
     }
     -- "each column once": two keys share it
-    ∷ record { schema = twoKeys 2 2; sent = insert 0 0 0 (pos 7 ∷ []) ∷ insert 1 1 0 (pos 7 ∷ []) ∷ []; sum = 3; next = delete 0 0; answered = changed 2; claimed = true }
+    ∷ record { schema = twoKeys 2 2; sent = insert 0 0 0 (pos 7 ∷ []) ∷ insert 1 1 0 (pos 7 ∷ []) ∷ []; sum = 3; free = 8; next = delete 0 0; answered = changed 2; claimed = true }
     -- kind 10: two rows of the second table are found
     ∷ record {
       schema = threeKeys 2 2 4 8;
       sent = insert 0 0 0 (pos 7 ∷ []) ∷ insert 1 0 1 (pos 0 ∷ pos 7 ∷ pos 7 ∷ []) ∷ insert 1 1 3 (pos 0 ∷ pos 0 ∷ pos 7 ∷ []) ∷ [];
       sum = 4;
+      free = 8;
       next = deleteWhere 1 2 0 (pos 7);
       answered = changed 2;
       claimed = true;
@@ -74,6 +78,7 @@ boundCases =
       schema = calibrations 0 0 1 0;
       sent = insert 0 0 0 (pos 7 ∷ pos 10 ∷ pos 20 ∷ []) ∷ insert 1 0 0 (pos 7 ∷ pos 15 ∷ []) ∷ insert 1 1 0 (pos 7 ∷ pos 16 ∷ []) ∷ [];
       sum = 3;
+      free = 8;
       next = deleteWhere 1 0 0 (pos 7);
       answered = changed 2;
       claimed = true;
@@ -83,6 +88,7 @@ boundCases =
       schema = threeKeys 3 3 3 8;
       sent = insert 0 0 0 (pos 7 ∷ []) ∷ insert 0 1 0 (pos 0 ∷ []) ∷ insert 1 0 0 (pos 7 ∷ pos 7 ∷ pos 7 ∷ []) ∷ [];
       sum = 3;
+      free = 8;
       next = delete 0 0;
       answered = changed 4;
       claimed = false;
@@ -92,6 +98,7 @@ boundCases =
       schema = clearedParent;
       sent = insert 0 0 0 (pos 7 ∷ []) ∷ insert 1 0 0 (pos 7 ∷ []) ∷ insert 2 0 0 (pos 7 ∷ pos 7 ∷ pos 7 ∷ []) ∷ [];
       sum = 4;
+      free = 8;
       next = delete 0 0;
       answered = changed 5;
       claimed = false;
@@ -101,6 +108,7 @@ boundCases =
       schema = clearedEnd;
       sent = insert 2 0 0 (pos 20 ∷ []) ∷ insert 0 0 0 (pos 7 ∷ pos 10 ∷ pos 20 ∷ []) ∷ [];
       sum = 3;
+      free = 8;
       next = delete 2 0;
       answered = changed 2;
       claimed = false;
@@ -114,6 +122,14 @@ SumsHold turns = map (λ (c : BoundCase). boundAfter turns (c .schema) (c .sent)
 pub sums-hold : SumsHold onBook
 unfolding onBook boundAfter boundCases
 sums-hold = refl
+
+-- the free records
+abbrev pub FreeHold : Turns → Type 0
+FreeHold turns = map (λ (c : BoundCase). freeAfter turns (c .schema) (c .sent)) boundCases ≡ map (λ (c : BoundCase). c .free) boundCases
+
+pub free-hold : FreeHold onBook
+unfolding onBook freeAfter boundCases
+free-hold = refl
 
 -- the deletes sent next
 abbrev pub DeletesHold : Turns → Type 0
