@@ -1,12 +1,12 @@
 -- The view of an area's words is without loss.
 -- Assumes nothing.
 use mathlib.Core.Path.{_≡_, refl, sym, _∙_, ap, ap₂}
-use mathlib.Core.Bool.{true, false, false≢true}
+use mathlib.Core.Bool.{true, false≢true}
 use mathlib.Core.List.{List, [], _∷_, _++_, map, reverse, reverse-reverse, append-assoc, append-nil}
 use Prim.Native.Nat.{ℕ, zero, suc, _+_, _-_, _*_, _≤_, _<_}
 use native.Mathlib.Nat.{div-add-mod', add-assoc, zero-add, add-zero}
 use native.Mathlib.Omega.{arith}
-use lib.Dec.{leb, eqb, leb→le, eqb→eq}
+use lib.Dec.{leb→le, eqb→eq}
 use lib.IntN.{ℤ, pos, negsuc}
 use lib.ListN.{length, getD, set, take, drop, take-append-drop, length-take, length-drop, length-map, length-reverse, length-append, List·getD-map}
 use lib.Seq.{take-append-add, drop-append-add, take-append-le, drop-append-le, drop-length, length-take-le}

@@ -4,7 +4,7 @@ use mathlib.Core.Path.{_≡_, refl, sym, ap, subst}
 use mathlib.Core.Bool.{Bool, true, false}
 use mathlib.Core.List.{List}
 use mathlib.Core.Logic.{_≢_}
-use Prim.Native.Nat.{ℕ, _≤_}
+use Prim.Native.Nat.{ℕ}
 use native.Mathlib.Omega.{arith}
 use lib.Dec.{eqb→eq}
 use lib.IntN.{ℤ}
@@ -23,7 +23,7 @@ use Rattle.rules.specs.declared.Answer.the-variants.{Refused}
 use Rattle.rules.specs.Lists.{𝟘}
 use Rattle.rules.specs.Values.{natOf}
 use Rattle.rules.specs.Refusals.{number, shown}
-use Rattle.rules.specs.Rows.{Row, deletedImage, live}
+use Rattle.rules.specs.Rows.{deletedImage, live}
 use Rattle.rules.specs.Book.{Work, Book}
 use Rattle.rules.specs.Calls.{Call, delete, deleteWhere, parse, seeksNull}
 use Rattle.rules.specs.Change.{Result, change}
