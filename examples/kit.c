@@ -148,6 +148,10 @@ static const struct step closing[] = {
     {"insert horse 8", {HOOFBOOK_INSERT, HORSES, 1, 0, 8}},
     {"commit", {HOOFBOOK_COMMIT}},
     {"move the readings of horse 7 to horse 8", {HOOFBOOK_UPDATE_WHERE, READINGS, HORSE, 0, 7, HORSE, 8}},
+};
+
+/* What one of these changes at most is asked before. */
+static const struct step deletions[] = {
     {"delete the trims of horse 8", {HOOFBOOK_DELETE_WHERE, TRIMS, HORSE, 0, 8}},
     {"delete horse 7 and its trims", {HOOFBOOK_DELETE, HORSES, 0}},
 };
@@ -201,6 +205,15 @@ static void list_orphans(const struct book *book)
         printf("  key %" PRIu64 ", row %" PRIu64 "\n", list[i].foreign_key, list[i].row);
 }
 
+/* No key has SET NULL, so this is the number of live rows. The journal has as many records: outside a transaction
+ * no delete is refused by 15. */
+static void ask_bound(const struct book *book)
+{
+    const hoofbook_number bound =
+        hoofbook_delete_bound(book->schema, book->schema_len, book->area, book->words);
+    printf("most rows that a delete changes: %" PRId64 ",%" PRId64 "\n", bound.code, bound.number);
+}
+
 /* Gives a drawn book a fresh area. */
 static void open_book(struct book *book)
 {
@@ -237,6 +250,8 @@ int main(void)
     carry_out(&book, entries, sizeof entries / sizeof *entries);
     list_orphans(&book);
     carry_out(&book, closing, sizeof closing / sizeof *closing);
+    ask_bound(&book);
+    carry_out(&book, deletions, sizeof deletions / sizeof *deletions);
     free(book.area);
     book = horse_book(SENSORS, PLAIN);
     printf("half-drawn schema: %" PRId64 "\n", hoofbook_check_schema(book.schema, book.schema_len));

@@ -72,6 +72,12 @@ typedef struct {
     int64_t count;
 } hoofbook_listed;
 
+/* The answer to a question about an area: code, and the number asked for. Refused: code, 0. */
+typedef struct {
+    int64_t code;
+    int64_t number;
+} hoofbook_number;
+
 /* An orphan: a row of the foreign key's child table that has no NULL in its key and no parent row; where the key
  * is windowed, none in whose window its day is. Under MATCH FULL also a row with some but not all key columns
  * NULL, which no parent row mends. A broken foreign key has no orphans. */
@@ -118,6 +124,13 @@ hoofbook_answer hoofbook_call(const uint8_t *schema, size_t schema_len, int64_t 
  * table is always enough. */
 hoofbook_listed hoofbook_list_orphans(const uint8_t *schema, size_t schema_len, const int64_t *area,
                                       size_t area_len, hoofbook_orphan *list, size_t list_len);
+
+/* How much one delete can touch: the sum, over all live rows, of 1 plus the row's columns that are not NULL and are
+ * child columns of a foreign key with SET NULL on delete, each column once. Where every on-delete action is NO ACTION,
+ * RESTRICT, SET NULL or CASCADE, and no such child column belongs to a parent key or a window, an accepted delete
+ * (kind 3 or 10) changes at most so many rows, and with so many journal records free a delete is never refused by 15.
+ * For other schemas it is a sum and no more. Refused by 1, 3 or 10, judged in this order; nothing is written. */
+hoofbook_number hoofbook_delete_bound(const uint8_t *schema, size_t schema_len, const int64_t *area, size_t area_len);
 
 #ifdef __cplusplus
 }
