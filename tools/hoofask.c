@@ -118,6 +118,14 @@ static void print_orphans(const struct book *book)
     free(list);
 }
 
+/* Code and number. */
+static void print_bound(const struct book *book)
+{
+    const hoofbook_number bound =
+        hoofbook_delete_bound(book->schema, book->schema_len, book->area, book->words);
+    printf("%" PRId64 ",%" PRId64 "\n", bound.code, bound.number);
+}
+
 /* A question: its name, what is printed, and who prints it for a book whose schema is accepted. */
 struct question {
     const char *name;
@@ -127,6 +135,7 @@ struct question {
 
 static const struct question questions[] = {
     {"orphans", "all orphans after the last call, by foreign key and then by row", print_orphans},
+    {"bound", "how much one delete can touch after the last call", print_bound},
 };
 enum { QUESTIONS = sizeof questions / sizeof *questions };
 

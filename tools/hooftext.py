@@ -14,7 +14,8 @@ from booktext.writer import text_of
 USAGE = """\
 usage: hooftext.py encode TEXT BYTES   turns a text of tables, keys and calls into hoofrun's bytes
        hooftext.py decode BYTES TEXT   turns such bytes into a text that encodes to them
-       hooftext.py run TEXT            runs hoofrun on a text, prints the answers beside the calls
+       hooftext.py run TEXT            runs hoofrun on a text, prints the answers beside the calls;
+                                       asks hoofask the questions that stand between them
        hooftext.py orphans TEXT        asks hoofask which orphans a text leaves, prints them by name
 - is standard input or output. hoofrun is the one that $HOOFRUN names, or target/bin/hoofrun;
 hoofask is the one that $HOOFASK names, or target/hoofask.

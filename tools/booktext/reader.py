@@ -1,4 +1,4 @@
-"""Reads a whole text: schema lines, then calls; or bytes alone."""
+"""Reads a whole text: schema lines, then calls and questions; or bytes alone."""
 
 import re
 from dataclasses import dataclass, field
@@ -6,6 +6,7 @@ from dataclasses import dataclass, field
 from .call_lines import read_call
 from .calls import CALL
 from .line import Line, Mistake
+from .questions import QUESTIONS, Question
 from .schema import Schema, schema_bytes
 from .schema_lines import SchemaLines
 
@@ -19,13 +20,18 @@ class Book:
     schema: Schema | None = None
     schema_line: int = 0  # the last line of the schema
     calls: list = field(default_factory=list)  # pairs of line number and words
+    questions: list = field(default_factory=list)
     raw: bytes = b""
     raw_line: int | None = None
 
+    def first_bytes(self, calls):
+        """The bytes of the schema and of the first so many calls."""
+        head = schema_bytes(self.schema) if self.schema else b""
+        return head + b"".join(CALL.pack(*words) for _, words in self.calls[:calls])
+
     def to_bytes(self):
         """The bytes that hoofrun reads."""
-        head = schema_bytes(self.schema) if self.schema else b""
-        return head + b"".join(CALL.pack(*words) for _, words in self.calls) + self.raw
+        return self.first_bytes(len(self.calls)) + self.raw
 
 
 class Reader:
@@ -45,12 +51,14 @@ class Reader:
             line.expected("'bytes' or the end of the text after a bytes line")
         elif line.peek() in self.schema_lines.verbs:
             self.read_schema_line(line)
+        elif line.peek() in QUESTIONS:
+            self.read_question(line)
         else:
             self.read_call(line)
 
     def read_schema_line(self, line):
         """Reads a line of the schema."""
-        if self.book.calls:
+        if self.book.calls or self.book.questions:
             line.expected("a call (tables, keys and the journal come before the first call)")
         self.schema_lines.read(line)
         self.book.schema = self.schema_lines.schema
@@ -62,10 +70,17 @@ class Reader:
         if words is None:
             line.expected(
                 "table, column, unique, key, journal, insert, update, delete, begin, savepoint,"
-                " release, rollback, commit, words or bytes"
+                " release, rollback, commit, bound, words or bytes"
             )
         self.need_journal(line.line_number)
         self.book.calls.append((line.line_number, words))
+
+    def read_question(self, line):
+        """Reads a question."""
+        name = line.name("a question")
+        line.end()
+        self.need_journal(line.line_number)
+        self.book.questions.append(Question(line.line_number, name, len(self.book.calls)))
 
     def need_journal(self, line_number):
         """The schema ends here, so the journal line must have been read."""
