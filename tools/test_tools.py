@@ -16,6 +16,7 @@ from booktext.reader import read_text
 from booktext.refusals import REFUSALS
 from booktext.runner import run_hoofrun, run_text
 from booktext.writer import text_of
+from tooltests.bounds import check_bounds
 from tooltests.broken_keys import check_broken_keys
 from tooltests.checks import Checks, tool
 from tooltests.folded import check_folded
@@ -245,7 +246,7 @@ def main():
     for run in (
         check_build, check_encoding, check_round_trips, check_mistakes, check_many_rows, check_matches,
         check_half_drawn, check_broken_keys, check_names, check_folded, check_windows,
-        check_window_books, check_runs, check_hoofask, check_orphans, check_commands,
+        check_window_books, check_runs, check_hoofask, check_orphans, check_bounds, check_commands,
         check_command_faults, check_blocks,
     ):
         try:

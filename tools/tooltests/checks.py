@@ -3,6 +3,7 @@
 import os
 import subprocess
 import sys
+import tempfile
 from pathlib import Path
 
 TOOL = Path(__file__).resolve().parents[1] / "hooftext.py"
@@ -30,3 +31,12 @@ def tool(*arguments, data=b"", **environment):
         input=data, capture_output=True, check=False, env={**os.environ, **environment},
     )
     return done.returncode, done.stdout, done.stderr.decode()
+
+
+def tool_with_hoofask(printed, command, text):
+    """Runs a command on a text, with a program in hoofask's place that prints this: as tool does."""
+    with tempfile.TemporaryDirectory() as folder:
+        program = Path(folder) / "hoofask"
+        program.write_text(f"#!/bin/sh\nprintf '{printed}\\n'\n", encoding="ascii")
+        program.chmod(0o755)
+        return tool(command, "-", data=text.encode(), HOOFASK=str(program))

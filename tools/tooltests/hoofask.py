@@ -147,10 +147,11 @@ def check_random_books(checks):
 
 def check_faults(checks):
     """A wrong usage has status 2; streams that fail have status 1."""
-    for arguments in ((), ("orphan",), ("orphans", "a")):
+    for arguments in ((), ("orphan",), ("orphans", "a"), ("bound", "3")):
         status, out, err = hoofask(*arguments, input=b"")
         used = (status, out) == (2, b"") and err.startswith("usage: hoofask QUESTION <INPUT\n")
-        checks.check(f"hoofask: usage after {arguments}", used and "\n  orphans " in err, err)
+        named = all(f"\n  {question} " in err for question in ("orphans", "bound"))
+        checks.check(f"hoofask: usage after {arguments}", used and named, err)
     with open("/dev/full", "wb") as full:
         status, _, err = hoofask("orphans", input=b"", stdout=full)
     told = (status, err) == (1, "hoofask: the answer cannot be written\n")

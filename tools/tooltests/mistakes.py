@@ -152,6 +152,19 @@ CALL_MISTAKES = [
     ("bytes" + " 00" * 96, "expected 1 to 95 bytes"),
 ]
 
+QUESTION_MISTAKES = [
+    ("bound 3", "expected the end of the line, found '3'"),
+    ("bound horses 0", "expected the end of the line, found 'horses'"),
+    ("bound bound", "expected the end of the line, found 'bound'"),
+    ("bound ?", "expected the end of the line, found '?'"),
+    ("bound !", "a number, a name in quotes or one of -> ( ) , . = ?, found '!'"),
+    ("Bound x", "rollback, commit, bound, words or bytes, found 'Bound'"),
+    ("bounds", "rollback, commit, bound, words or bytes, found 'bounds'"),
+    ("orphans", "rollback, commit, bound, words or bytes, found 'orphans'"),
+    ('"bound"', "rollback, commit, bound, words or bytes, found '\"bound\"'"),
+    ("delete bound", "expected the name of a table (horses, trims), found 'bound'"),
+]
+
 WHERE_MISTAKES = [
     ("insert trims where horse = 5", "expected a row number, found 'where'"),
     ("delete where horse = 5", "expected the name of a table (horses, trims), found 'where'"),
@@ -201,7 +214,7 @@ VALUE_NAME_MISTAKES = [
     ('delete trims where "horse" = 2', "a column of trims (number, horse), found '\"horse\"'"),
     ('delete "trims" 0', "the name of a table (horses, trims), found '\"trims\"'"),
     ('delete trims "0"', "expected a row number or 'where', found '\"0\"'"),
-    ('"begin"', "release, rollback, commit, words or bytes, found '\"begin\"'"),
+    ('"begin"', "rollback, commit, bound, words or bytes, found '\"begin\"'"),
     ('rollback to "1"', "expected a level, found '\"1\"'"),
     ('words "Lf2" 0 0 0 0 0 0 0 0 0 0 0', "expected a word, found '\"Lf2\"'"),
     ('bytes "46"', "expected bytes of two hexadecimal digits, found '\"46\"'"),
@@ -234,6 +247,12 @@ ORDER_MISTAKES = [
     ("begin\n", 1, "expected a line 'journal N' before the first call"),
     ("table a rows 1\nbegin\n", 2, "expected a line 'journal N' before the first call"),
     ("table a rows 1\nbytes 00\n", 2, "expected a line 'journal N' before the first call"),
+    ("bound\n", 1, "expected a line 'journal N' before the first call"),
+    ("table a rows 1\nbound\njournal 8\n", 2, "expected a line 'journal N' before the first call"),
+    (TABLES + "bound\ntable goats rows 1\n", 10, "expected a call"),
+    (TABLES + "bound\njournal 9\n", 10, "expected a call"),
+    (TABLES + "bytes 00\nbound\n", 10, "expected 'bytes' or the end of the text"),
+    ("bytes 00\nbound\n", 2, "expected 'bytes' or the end of the text"),
     (TABLES + "begin\ntable goats rows 1\n", 10, "expected a call"),
     (TABLES + "begin\njournal 9\n", 10, "expected a call"),
     (TABLES + "bytes 00\nbegin\n", 10, "expected 'bytes' or the end of the text"),
@@ -248,7 +267,7 @@ def all_mistakes():
     yield from SCHEMA_NAME_MISTAKES
     for line, message in KEY_MISTAKES + WINDOW_MISTAKES + UNDRAWN_KEY_MISTAKES:
         yield before_journal + line + "\njournal 8\n", at_key, message
-    for line, message in CALL_MISTAKES + WHERE_MISTAKES + VALUE_NAME_MISTAKES:
+    for line, message in CALL_MISTAKES + QUESTION_MISTAKES + WHERE_MISTAKES + VALUE_NAME_MISTAKES:
         yield TABLES + "\n# calls\n" + line + "\ncommit\n", 11, message
     yield from NUMBER_MISTAKES
     yield from ORDER_MISTAKES

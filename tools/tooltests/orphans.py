@@ -1,13 +1,10 @@
 """Tests of the orphan list in names."""
 
-import tempfile
-from pathlib import Path
-
 from booktext.orphans import orphans_text
 from booktext.reader import read_text
 from booktext.writer import bytes_lines
 
-from .checks import tool
+from .checks import tool, tool_with_hoofask
 from .hoofask import BROKEN, MALFORMED, TIED, UNSORTED
 
 UNSORTED_LIST = """\
@@ -97,14 +94,10 @@ OTHER_PROGRAMS = [
 
 def check_other_programs(checks):
     """Answers that only another program in hoofask's place gives."""
-    with tempfile.TemporaryDirectory() as folder:
-        program = Path(folder) / "hoofask"
-        for printed, status, told in OTHER_PROGRAMS:
-            program.write_text(f"#!/bin/sh\nprintf '{printed}\\n'\n", encoding="ascii")
-            program.chmod(0o755)
-            found = tool("orphans", "-", data=TIED.encode(), HOOFASK=str(program))
-            wanted = (0, told.encode(), "") if status == 0 else (status, b"", told)
-            checks.check(f"orphans by a program that prints {printed}", found == wanted, found)
+    for printed, status, told in OTHER_PROGRAMS:
+        found = tool_with_hoofask(printed, "orphans", TIED)
+        wanted = (0, told.encode(), "") if status == 0 else (status, b"", told)
+        checks.check(f"orphans by a program that prints {printed}", found == wanted, found)
 
 
 def check_orphans(checks):
