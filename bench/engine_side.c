@@ -1,9 +1,11 @@
-// The orphan list of a hoofrun input's book, by the engine's library.
+// The orphan list of a hoofrun input's book, or the bound of a delete, by the engine's library.
 //
-//   engine_side LISTS <input >orphans
+//   engine_side orphans TIMES <input >answer
+//   engine_side bound TIMES <input >answer
 //
-// The calls are carried out, then the list is made LISTS times. The first line is the seconds of the
-// fastest list, in which nothing else is; then comes a line 'KEY,ROW' for each orphan as it is listed.
+// The calls are carried out, then the question is asked TIMES times. The first line is the seconds of the
+// fastest answer, in which nothing else is; then comes a line 'KEY,ROW' for each orphan as it is listed, or
+// one line with the bound.
 #include "side.h"
 
 static input book;
@@ -29,18 +31,24 @@ static int accepts(const uint8_t *bytes) {
     return hoofbook_call(book.schema, book.schema_length, area, area_length, call, 12).code == HOOFBOOK_DONE;
 }
 
-static size_t list_orphans(void) {
+static int64_t list_orphans(void) {
     hoofbook_listed listed =
         hoofbook_list_orphans(book.schema, book.schema_length, area, area_length, orphans, MOST_ORPHANS);
     if (listed.code != HOOFBOOK_DONE) stop("list refused");
     return listed.count;
 }
 
+static int64_t delete_bound(void) {
+    hoofbook_number bound = hoofbook_delete_bound(book.schema, book.schema_length, area, area_length);
+    if (bound.code != HOOFBOOK_DONE) stop("bound refused");
+    return bound.number;
+}
+
 int main(int argc, char **argv) {
-    if (argc != 2) stop("usage: engine_side LISTS <input >orphans");
+    if (argc != 3) stop("usage: engine_side QUESTION TIMES <input >answer");
     book = read_input();
     open_book();
     carry_out_calls(book);
-    print_list(atoi(argv[1]));
+    print_answer(argv[1], atoi(argv[2]));
     return 0;
 }

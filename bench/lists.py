@@ -1,16 +1,16 @@
 """Measures the engine's orphan list and SQLite's own check on the same bytes and prints a table."""
 
 import math
-import subprocess
 import sys
+from functools import partial
 from itertools import zip_longest
 from pathlib import Path
 
 from inputs import BEGIN, INSERT, Calls, name_value
 from loads import trims_text
 from names import name_of, names_text
+from questions import best, print_heading, print_times
 
-RUNS = 3
 LISTS = 30  # of each run
 SIZES = ((8, 128), (32, 1024))  # foreign keys; rows of each table
 PARENTS, CHILDREN = 0, 1
@@ -54,16 +54,6 @@ def filled(kind, keys, rows, is_orphan):
     return calls.to_bytes()
 
 
-def listed(program, path):
-    """The seconds of the fastest list and the orphans, pairs of foreign key and row."""
-    with open(path, "rb") as source:
-        done = subprocess.run(
-            [program, str(LISTS)], stdin=source, stdout=subprocess.PIPE, check=True, text=True
-        )
-    seconds, *lines = done.stdout.splitlines()
-    return float(seconds), [tuple(map(int, line.split(","))) for line in lines]
-
-
 def compare(name, ours, theirs):
     """Both must list the same orphans, and the engine by foreign key number, then by rising row."""
     for our, their in zip_longest(sorted(ours), sorted(theirs)):
@@ -73,27 +63,16 @@ def compare(name, ours, theirs):
         sys.exit(f"lists: {name}: the engine's list is not in its order")
 
 
-def best(programs, name, path):
-    """The best seconds of both, one after the other on the same bytes, and the number of orphans."""
-    times = []
-    for _ in range(RUNS):
-        (ours, our_list), (theirs, their_list) = (listed(program, path) for program in programs)
-        compare(name, our_list, their_list)
-        times.append((ours, theirs))
-    return *map(min, zip(*times)), len(our_list)
-
-
 def print_lists(programs, folder):
     """One line for each book and load; its input stays in the folder as list1.bin and so on."""
-    print(f"{'milliseconds a list':44}{'orphans':>9}{'engine':>11}{'SQLite':>11}{'ratio':>8}")
+    print_heading("milliseconds a list", "orphans")
     books = [(kind, keys, rows, load) for kind in KINDS for keys, rows in SIZES for load in LOADS]
     for number, (kind, keys, rows, load) in enumerate(books, 1):
         path = Path(folder) / f"list{number}.bin"
         path.write_bytes(filled(kind, keys, rows, LOADS[load]))
         name = f"{keys} {kind}, {rows:,} rows: {load}"
-        ours, theirs, count = best(programs, name, path)
-        cells = f"{count:9,}{ours * 1e3:11.3f}{theirs * 1e3:11.3f}{theirs / ours:8.2f}"
-        print(f"{name:44}{cells}", flush=True)
+        ours, theirs, orphans = best(programs, "orphans", LISTS, path, partial(compare, name))
+        print_times(name, len(orphans), ours * 1e3, theirs * 1e3)
 
 
 def main():

@@ -1,10 +1,11 @@
 #!/usr/bin/env bash
-# Measures hoofrun and the orphan list against SQLite in memory, on the same bytes.
+# Measures hoofrun, the orphan list and the bound of a delete against SQLite in memory, on the same bytes.
 # usage: bench/run.sh [CALLS]      calls of each input, 10,000 if not given
 #        bench/run.sh lists        the orphan lists alone
+#        bench/run.sh bounds       the bounds of a delete alone
 #        bench/run.sh scans        rows gone through, with plain and with folded columns, alone
-# hoofrun is the one that $HOOFRUN names, or target/bin/hoofrun; the library that makes the orphan list
-# is the one that $CAPI names, or target/staticlib/libcapi.a.
+# hoofrun is the one that $HOOFRUN names, or target/bin/hoofrun; the library that answers questions is the
+# one that $CAPI names, or target/staticlib/libcapi.a.
 set -euo pipefail
 cd "$(dirname "$0")/.."
 
@@ -13,11 +14,11 @@ hoofrun=${HOOFRUN:-target/bin/hoofrun}
 capi=${CAPI:-target/staticlib/libcapi.a}
 folder=target/bench
 
-if [ $# -gt 1 ] || ! [[ $calls =~ ^([1-9][0-9]*|lists|scans)$ ]]; then
-    echo "usage: bench/run.sh [CALLS | lists | scans]" >&2
+if [ $# -gt 1 ] || ! [[ $calls =~ ^([1-9][0-9]*|lists|bounds|scans)$ ]]; then
+    echo "usage: bench/run.sh [CALLS | lists | bounds | scans]" >&2
     exit 2
 fi
-if [ "$calls" != lists ] && ! [ -x "$hoofrun" ]; then
+if ! [[ $calls =~ ^(lists|bounds)$ ]] && ! [ -x "$hoofrun" ]; then
     echo "bench/run.sh: $hoofrun is not there: 'rt check hoofrun' builds it" >&2
     exit 1
 fi
@@ -38,11 +39,20 @@ mkdir -p "$folder"
 compile=(gcc -std=c11 -O2 -Wall -Wextra -Iinclude)
 "${compile[@]}" -o "$folder/sqlite_side" bench/sqlite_side.c -lsqlite3
 "${compile[@]}" -o "$folder/engine_side" bench/engine_side.c "$capi"
-if [ "$calls" = scans ]; then
-    exec python3 bench/scans.py "$hoofrun" "$folder/sqlite_side" "$folder"
-fi
-if [ "$calls" != lists ]; then
+
+# The table of a question, by the file of that name.
+question() {
+    python3 "bench/$1.py" "$folder/engine_side" "$folder/sqlite_side" "$folder"
+}
+
+case $calls in
+scans) python3 bench/scans.py "$hoofrun" "$folder/sqlite_side" "$folder" ;;
+lists | bounds) question "$calls" ;;
+*)
     python3 bench/measure.py "$hoofrun" "$folder/sqlite_side" "$folder" "$calls"
     echo
-fi
-exec python3 bench/lists.py "$folder/engine_side" "$folder/sqlite_side" "$folder"
+    question lists
+    echo
+    question bounds
+    ;;
+esac

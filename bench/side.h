@@ -1,4 +1,4 @@
-// What SQLite's side and the engine's side have in common: the input, the clock and the orphan list.
+// What SQLite's side and the engine's side have in common: the input, the clock and the questions.
 // It is included first, by programs of one file.
 #ifndef SIDE_H
 #define SIDE_H
@@ -25,11 +25,12 @@ typedef struct {
 // As long as a list can be.
 static hoofbook_orphan orphans[MOST_ORPHANS];
 
-// What each side has of its own: its last message; whether it accepts a call, which it carries out; and
-// its list, whose length it answers.
+// What each side has of its own: its last message; whether it accepts a call, which it carries out; and its
+// answers to questions: its list of orphans, whose length it answers, and the bound of a delete.
 static void stop(const char *where);
 static int accepts(const uint8_t *call);
-static size_t list_orphans(void);
+static int64_t list_orphans(void);
+static int64_t delete_bound(void);
 
 static int field16(const uint8_t *bytes) { return bytes[0] | bytes[1] << 8; }
 
@@ -55,25 +56,32 @@ static void carry_out_calls(input book) {
         if (!accepts(book.calls + CALL_BYTES * i)) stop("call refused");
 }
 
-// Makes the list so many times; answers its length and the seconds of the fastest one.
-static size_t fastest_list(int times, double *fastest) {
-    size_t count = 0;
+// Asks so many times; answers the number, and the seconds of the fastest answer.
+static int64_t fastest_answer(int64_t (*ask)(void), int times, double *fastest) {
+    int64_t number = 0;
     for (int i = 0; i < times; i++) {
         double start = seconds_now();
-        count = list_orphans();
+        number = ask();
         double seconds = seconds_now() - start;
         if (i == 0 || seconds < *fastest) *fastest = seconds;
     }
-    return count;
+    return number;
 }
 
-// The seconds of the fastest of so many lists, then a line for each orphan.
-static void print_list(int times) {
-    double fastest = 0;
-    size_t count = fastest_list(times, &fastest);
-    printf("%.9f\n", fastest);
-    for (size_t i = 0; i < count; i++)
+static void print_orphans(int64_t count) {
+    for (int64_t i = 0; i < count; i++)
         printf("%" PRIu64 ",%" PRIu64 "\n", orphans[i].foreign_key, orphans[i].row);
+}
+
+// The seconds of the fastest of so many answers; then a line for each orphan, or one with the bound.
+static void print_answer(const char *question, int times) {
+    int lists = strcmp(question, "orphans") == 0;
+    if (!lists && strcmp(question, "bound") != 0) stop("the question is 'orphans' or 'bound'");
+    double seconds = 0;
+    int64_t number = fastest_answer(lists ? list_orphans : delete_bound, times, &seconds);
+    printf("%.9f\n", seconds);
+    if (lists) print_orphans(number);
+    else printf("%" PRId64 "\n", number);
 }
 
 #endif

@@ -7,11 +7,13 @@
 // error: reading the input, making the tables, preparing the statements and printing are not in those
 // seconds.
 //
-//   sqlite_side LISTS <input >orphans
+//   sqlite_side orphans TIMES <input >answer
+//   sqlite_side bound TIMES <input >answer
 //
-// The calls are carried out, then the orphans are listed LISTS times by SQLite's own check. The first
-// line is the seconds of the fastest list, in which nothing else is; then comes a line 'KEY,ROW' for each
-// orphan. All keys must have the same child table.
+// The calls are carried out, then the question is asked TIMES times: orphans are listed by SQLite's own
+// check, the bound of a delete is summed by a SELECT. The first line is the seconds of the fastest answer, in
+// which nothing else is; then comes a line 'KEY,ROW' for each orphan, or one line with the bound. For the
+// orphans all keys must have the same child table.
 //
 // The schema is taken for valid, and both columns of a key's pair are folded or neither is.
 //
@@ -26,6 +28,7 @@ enum { MOST_TABLES = 16, MOST_COLUMNS = 8, MOST_LEVELS = 9, TABLE_BYTES = 80, KE
 enum { INSERT = 1, UPDATE, DELETE, BEGIN, SAVEPOINT, RELEASE, ROLLBACK_TO, ROLLBACK, COMMIT };
 enum { DELETE_WHERE = COMMIT + 1, UPDATE_WHERE, WHERE_KINDS = 2 };
 enum { SEEKS_NULL = 1, SETS_NULL = 2 };
+enum { SET_NULL = 2 }; // of the actions
 
 // A table or foreign key record as its bytes, read where it is needed.
 typedef const uint8_t *record;
@@ -37,7 +40,8 @@ static sqlite3_stmt *row_statements[DELETE + 1][MOST_TABLES];
 // By kind, whether NULL is sought, table, column sought and column to set, which is 0 for a deletion.
 static sqlite3_stmt *where_statements[WHERE_KINDS][2][MOST_TABLES][MOST_COLUMNS][MOST_COLUMNS];
 static sqlite3_stmt *level_statements[ROLLBACK_TO + 1][MOST_LEVELS + 1];
-static sqlite3_stmt *begin_statement, *rollback_statement, *commit_statement, *check_statement;
+static sqlite3_stmt *begin_statement, *rollback_statement, *commit_statement;
+static sqlite3_stmt *check_statement, *bound_statement;
 
 static record table_record(int t) { return table_records + TABLE_BYTES * t; }
 static record key_record(int k) { return key_records + KEY_BYTES * k; }
@@ -553,8 +557,8 @@ static void answer_calls(input book) {
 }
 
 // SQLite counts a table's keys from the one declared last, which is the first of the schema.
-static size_t list_orphans(void) {
-    size_t count = 0;
+static int64_t list_orphans(void) {
+    int64_t count = 0;
     for (; sqlite3_step(check_statement) == SQLITE_ROW; count++) {
         orphans[count].row = sqlite3_column_int64(check_statement, 1);
         orphans[count].foreign_key = sqlite3_column_int64(check_statement, 3);
@@ -563,15 +567,45 @@ static size_t list_orphans(void) {
     return count;
 }
 
+static int64_t delete_bound(void) {
+    if (sqlite3_step(bound_statement) != SQLITE_ROW) stop("bound");
+    int64_t number = sqlite3_column_int64(bound_statement, 0);
+    sqlite3_reset(bound_statement);
+    return number;
+}
+
+// The columns of a table that SET NULL clears on delete, as a mask.
+static int cleared_mask(int t) {
+    int mask = 0;
+    for (int k = 0; k < key_count; k++)
+        if (key_record(k)[0] == t && key_record(k)[3] == SET_NULL) mask |= child_mask(key_record(k));
+    return mask;
+}
+
+static void prepare_questions(void) {
+    check_statement = prepare_plain("PRAGMA foreign_key_check", 0);
+    sql_start();
+    add("SELECT 0");
+    for (int t = 0; t < table_count; t++) {
+        uint8_t columns[8];
+        int count = mask_columns(cleared_mask(t), columns);
+        add("+(SELECT count(*)");
+        for (int i = 0; i < count; i++) add("+count(c%d)", columns[i]);
+        add(" FROM t%d)", t);
+    }
+    bound_statement = prepared();
+}
+
 int main(int argc, char **argv) {
+    if (argc != 1 && argc != 3) stop("usage: sqlite_side [QUESTION TIMES] <input >answer");
     input book = read_input();
     open_book(book);
     if (argc == 1) {
         answer_calls(book);
     } else {
         carry_out_calls(book);
-        check_statement = prepare_plain("PRAGMA foreign_key_check", 0);
-        print_list(atoi(argv[1]));
+        prepare_questions();
+        print_answer(argv[1], atoi(argv[2]));
     }
     return 0;
 }
