@@ -59,7 +59,7 @@ class Reader:
     def read_schema_line(self, line):
         """Reads a line of the schema."""
         if self.book.calls or self.book.questions:
-            line.expected("a call (tables, keys and the journal come before the first call)")
+            line.expected("a call or a question (tables, keys and the journal come before them)")
         self.schema_lines.read(line)
         self.book.schema = self.schema_lines.schema
         self.book.schema_line = line.line_number
@@ -85,7 +85,7 @@ class Reader:
     def need_journal(self, line_number):
         """The schema ends here, so the journal line must have been read."""
         if self.schema_lines.schema.journal is None:
-            raise Mistake(line_number, "expected a line 'journal N' before the first call")
+            raise Mistake(line_number, "expected a line 'journal N' before calls and questions")
 
     def read_bytes(self, line):
         """bytes HH HH ...: the whole input, or a last call that is too short"""

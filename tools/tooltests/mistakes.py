@@ -244,17 +244,17 @@ NUMBER_MISTAKES = [
 ]
 
 ORDER_MISTAKES = [
-    ("begin\n", 1, "expected a line 'journal N' before the first call"),
-    ("table a rows 1\nbegin\n", 2, "expected a line 'journal N' before the first call"),
-    ("table a rows 1\nbytes 00\n", 2, "expected a line 'journal N' before the first call"),
-    ("bound\n", 1, "expected a line 'journal N' before the first call"),
-    ("table a rows 1\nbound\njournal 8\n", 2, "expected a line 'journal N' before the first call"),
-    (TABLES + "bound\ntable goats rows 1\n", 10, "expected a call"),
-    (TABLES + "bound\njournal 9\n", 10, "expected a call"),
+    ("begin\n", 1, "expected a line 'journal N' before calls"),
+    ("table a rows 1\nbegin\n", 2, "expected a line 'journal N' before calls"),
+    ("table a rows 1\nbytes 00\n", 2, "expected a line 'journal N' before calls"),
+    ("bound\n", 1, "expected a line 'journal N' before calls"),
+    ("table a rows 1\nbound\njournal 8\n", 2, "expected a line 'journal N' before calls"),
+    (TABLES + "bound\ntable goats rows 1\n", 10, "expected a call or a question"),
+    (TABLES + "bound\njournal 9\n", 10, "expected a call or a question"),
     (TABLES + "bytes 00\nbound\n", 10, "expected 'bytes' or the end of the text"),
     ("bytes 00\nbound\n", 2, "expected 'bytes' or the end of the text"),
-    (TABLES + "begin\ntable goats rows 1\n", 10, "expected a call"),
-    (TABLES + "begin\njournal 9\n", 10, "expected a call"),
+    (TABLES + "begin\ntable goats rows 1\n", 10, "expected a call or a question"),
+    (TABLES + "begin\njournal 9\n", 10, "expected a call or a question"),
     (TABLES + "bytes 00\nbegin\n", 10, "expected 'bytes' or the end of the text"),
     ("bytes 00\ntable a rows 1\n", 2, "expected 'bytes' or the end of the text"),
 ]
