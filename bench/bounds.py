@@ -50,7 +50,7 @@ def print_bounds(programs, folder):
         path = Path(folder) / f"bound{number}.bin"
         data, bound = filled(tables, rows)
         path.write_bytes(data)
-        name = f"{tables} table{'s' * (tables > 1)}, {rows:,} rows each"
+        name = f"{tables} table{'s' * (tables > 1)} of {rows:,} rows"
         ours, theirs, _ = best(programs, "bound", TIMES, path, partial(compare, name, bound))
         print_times(name, bound, ours * 1e6, theirs * 1e6)
 
