@@ -21,6 +21,7 @@ pub mod StateBits
 pub mod RowImages
 pub mod HoldLaws
 pub mod SoundLaws
+pub mod QuestionLaws
 pub mod KeyLaws
 pub mod KeyColumns
 pub mod WindowLaws
