@@ -48,7 +48,7 @@ value-in a p w c h =
     let e : p + suc c ≡ p + c + 1 = omega arith in
     word-in a p w (suc c) h ∙ ap (λ (i : ℕ). getD a i 𝟘) e
 
-state-in : (a : List ℤ) (p w : ℕ) → 0 < w → getD (rowIn a p w) 0 𝟘 ≡ getD a p 𝟘
+pub state-in : (a : List ℤ) (p w : ℕ) → 0 < w → getD (rowIn a p w) 0 𝟘 ≡ getD a p 𝟘
 state-in a p w h = word-in a p w 0 h ∙ ap (λ (i : ℕ). getD a i 𝟘) (add-zero p)
 
 pub null-in : (a : List ℤ) (p w c : ℕ) → 0 < w → nullAt (rowIn a p w) c ≡ bit c (natOf (getD a p 𝟘))

@@ -1,0 +1,4 @@
+pub mod MaskCounts
+pub mod ClearLaws
+pub mod RowBounds
+pub mod TableBounds
