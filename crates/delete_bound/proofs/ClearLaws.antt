@@ -67,8 +67,8 @@ module _ (t c : ℕ) (k : ForeignKey) where
     unfolding clears
     other-table n = rw (e, ne-eqb (k .child) t n)
 
-    pub own-column : k .child ≡ t → {n : ℕ} {cs : List ℕ} → n ≡ length (childKey k) → take (length (childKey k)) cs ≡ childKey k → any (eqb c) (take n cs) ≡ clears t c k
+    pub own-column : k .child ≡ t → {n : ℕ} (cs : List ℕ) → n ≡ length (childKey k) → take (length (childKey k)) cs ≡ childKey k → any (eqb c) (take n cs) ≡ clears t c k
     unfolding clears
-    own-column q {n} {cs} f g =
+    own-column q {n} cs f g =
         let columns : take n cs ≡ childKey k = ap (λ (m : ℕ). take m cs) f ∙ g in
         rw (columns, e, eq-eqb (k .child) t q)

@@ -95,7 +95,7 @@ module _ (bs : List ℕ) (a : List ℤ) (h : Ready bs a) (t : ℕ) where
 
   pub tables-none : length (schemaOf bs .tables) ≤ t → tablesLeft bs a t ≡ 0
   unfolding tablesBound
-  tables-none l = ap (tablesBound (schemaOf bs) t) (drop-of-length-le tabs (omega (arith, tables-many)))
+  tables-none l = let h : length tabs ≤ t = omega (arith, tables-many) in ap (tablesBound (schemaOf bs) t) (drop-of-length-le tabs h)
 
   pub tables-more : t < length (schemaOf bs .tables) → tablesLeft bs a t ≡ rowsBound (schemaOf bs) t (tableRows bs a t) + tablesLeft bs a (t + 1)
   unfolding tablesBound

@@ -1,0 +1,49 @@
+use borrow.Author.Needs.{needs}
+use Rattle.delete_bound.proofs.ClearLaws.{set-null-yes, none-no, restrict-no, default-no, cascade-no}
+use Rattle.delete_bound.proofs.is_set_null.Statement.{statement}
+use Rattle.delete_bound.proofs.is_set_null.Tie as tie
+
+enum-told : tie.Need-enum-told
+enum-told c = search needs
+
+enum-told-2 : tie.Need-enum-told-2
+enum-told-2 c = search needs
+
+enum-told-3 : tie.Need-enum-told-3
+enum-told-3 c = search needs
+
+enum-told-4 : tie.Need-enum-told-4
+enum-told-4 c = search needs
+
+enum-told-5 : tie.Need-enum-told-5
+enum-told-5 c = search needs
+
+returns : tie.Need-returns
+returns c = set-null-yes (c .enum-told .given .1)
+
+returns-2 : tie.Need-returns-2
+returns-2 c = none-no (c .enum-told2 .given .1)
+
+returns-3 : tie.Need-returns-3
+returns-3 c = restrict-no (c .enum-told3 .given .1)
+
+returns-4 : tie.Need-returns-4
+returns-4 c = default-no (c .enum-told4 .given .1)
+
+returns-5 : tie.Need-returns-5
+returns-5 c = cascade-no (c .enum-told5 .given .1)
+
+pub is-set-null-spec : {M : Type 1} → statement M
+is-set-null-spec =
+    tie.close
+    (tie.spec
+    enum-told
+    enum-told-2
+    enum-told-3
+    enum-told-4
+    enum-told-5
+    returns
+    returns-2
+    returns-3
+    returns-4
+    returns-5)
