@@ -6,8 +6,10 @@ ghost use Rattle.schema.specs.Check;
 ghost use Rattle.engine.specs.Calls.{callWords};
 ghost use Rattle.fresh_area.specs.Fresh.{areaWords};
 ghost use Rattle.rules.specs.OrphanList.{listOrphans};
+ghost use Rattle.rules.specs.DeleteBound.{boundAnswer};
 ghost use Rattle.capi.specs.Shown.{freshCode};
 use rules::Listed;
+use rules::Numbered;
 use rules::Orphan;
 
 // The answer to a call.
@@ -76,4 +78,12 @@ pub extern "C" fn hoofbook_list_orphans(schema: &[u8], area: &[i64], list: &mut 
         i += 1;
     }
     plan.answer
+}
+
+// How much one delete can touch, or refuses by 1, 3 or 10.
+#[no_mangle]
+pub extern "C" fn hoofbook_delete_bound(schema: &[u8], area: &[i64]) -> Numbered
+    ensures { λ x. ⌜ x ≡ boundAnswer (now (schema .entry)) (now (area .entry)) ⌝ }
+{
+    delete_bound::delete_bound(schema, area)
 }

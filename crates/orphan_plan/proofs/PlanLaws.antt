@@ -1,33 +1,29 @@
 -- The checks of the orphan list in their order: what each finds is the verdict.
 -- Assumes nothing.
 use mathlib.Core.Path.{_≡_, refl, sym, ap, _∙_}
-use mathlib.Core.Bool.{false, _&&_}
 use mathlib.Core.List.{List, [], _∷_}
 use Prim.Native.Nat.{ℕ, _+_, _≤_, _<_}
 use native.Mathlib.Numerals.{add-one}
 use native.Mathlib.Omega.{arith}
-use borrow.Author.Tests.{eq-eqb, ne-eqb, lt-ltb, le-ltb}
+use borrow.Author.Tests.{lt-ltb, le-ltb}
 use lib.IntN.{ℤ}
 use lib.ListN.{length, getD, drop, drop-of-length-le}
 use lib.Seq.{drop-cons}
-use Rattle.schema.specs.declared.SchemaAnswer.the-variants.{Accepted, Malformed}
 use Rattle.schema.specs.Records.{ForeignKey, noKey}
 use Rattle.schema.specs.Fields.{schemaOf}
-use Rattle.schema.specs.Check.{checkSchema}
-use Rattle.schema.specs.Sizes.{areaSize}
 use Rattle.rules.specs.declared.Refusal.{Refusal}
-use Rattle.rules.specs.declared.Refusal.the-variants.{SchemaMalformed, WrongLength, Damaged, ListTooShort}
+use Rattle.rules.specs.declared.Refusal.the-variants.{ListTooShort}
 use Rattle.rules.specs.declared.Verdict.the-variants.{Pass, Fail}
 use Rattle.rules.specs.declared.Listed.{Listed}
 use Rattle.rules.specs.Lists.{𝟘}
 use Rattle.rules.specs.Refusals.{failing}
 use Rattle.rules.specs.Rows.{Tables}
 use Rattle.rules.specs.Keys.{orphans}
-use Rattle.rules.specs.State.{undamaged}
-use Rattle.rules.specs.Area.{view, legible}
-use Rattle.rules.specs.OrphanList.{orphanTotal, schemaVerdict, listVerdict, listed, listAnswer}
+use Rattle.rules.specs.Questions.{areaVerdict}
+use Rattle.rules.specs.OrphanList.{orphanTotal, listVerdict, listed, listAnswer}
 use Rattle.bridge.specs.Fit.{workOf}
 use Rattle.bridge.specs.Ready.{Sound}
+use Rattle.bridge.proofs.QuestionLaws.{sound-passes, refused-first}
 use Rattle.orphan_scan.specs.declared.Cursor.{Cursor}
 use Rattle.orphan_scan.specs.Scan.{Starts}
 use Rattle.orphan_scan.proofs.ScanLaws.{all-left}
@@ -61,31 +57,20 @@ module _ (bs : List ℕ) (ws : List ℤ) (room : ℕ) where
       let none = ap (λ (r : Listed). r .count) e in
       record { answer-is = e ∙ sym (rw v refl); fits = omega (arith, none); begun = λ z. absurd (omega (arith, z, none)) }
 
-  module _ {x : Plan} where
-    pub malformed : x .answer ≡ refusedBy SchemaMalformed → checkSchema bs ≡ Malformed → Planned bs ws room x
-    unfolding listVerdict schemaVerdict
-    malformed e h = refused-by SchemaMalformed e (rw h refl)
-
-    module _ (acc : checkSchema bs ≡ Accepted) where
-      pub wrong-length : x .answer ≡ refusedBy WrongLength → (length ws ≡ areaSize (schemaOf bs) → ⊥) → Planned bs ws room x
-      unfolding listVerdict schemaVerdict failing
-      wrong-length e h = refused-by WrongLength e (rw (acc, ne-eqb (length ws) (areaSize (schemaOf bs)) h) refl)
-
-      pub damaged : x .answer ≡ refusedBy Damaged → length ws ≡ areaSize (schemaOf bs) → legible (schemaOf bs) ws && undamaged (schemaOf bs) (view (schemaOf bs) ws) ≡ false → Planned bs ws room x
-      unfolding listVerdict schemaVerdict failing
-      damaged e n h = refused-by Damaged e (rw (acc, eq-eqb (length ws) (areaSize (schemaOf bs)) n, h) refl)
+  -- by 1, 3 or 10
+  pub refused-area : {x : Plan} (c : Refusal) → x .answer ≡ refusedBy c → areaVerdict bs ws Pass ≡ Fail c → Planned bs ws room x
+  unfolding listVerdict
+  refused-area c e v = refused-by c e (refused-first bs ws c v _)
 
   -- ---- the plan of a sound area
   module _ (h : Sound bs ws) (total : ℕ) (e : total ≡ orphanTotal (schemaOf bs .keys) (tablesIn bs ws)) where
     pub too-short : {x : Plan} → x .answer ≡ refusedBy ListTooShort → room < total → Planned bs ws room x
-    unfolding listVerdict schemaVerdict failing workOf
-    too-short p l =
-        refused-by ListTooShort p
-        (rw (h .ready .accepted, eq-eqb (length ws) (areaSize (schemaOf bs)) (h .ready .fit .size), h .ready .fit .legible-is, h .undamaged-is, lt-ltb room _ (rw e at l)) refl)
+    unfolding listVerdict failing workOf
+    too-short p l = refused-by ListTooShort p (sound-passes bs ws h _ ∙ rw (lt-ltb room _ (rw e at l)) refl)
 
     passes : total ≤ room → listVerdict bs ws room ≡ Pass
-    unfolding listVerdict schemaVerdict failing workOf
-    passes l = rw (h .ready .accepted, eq-eqb (length ws) (areaSize (schemaOf bs)) (h .ready .fit .size), h .ready .fit .legible-is, h .undamaged-is, le-ltb room _ (rw e at l)) refl
+    unfolding listVerdict failing workOf
+    passes l = sound-passes bs ws h _ ∙ rw (le-ltb room _ (rw e at l)) refl
 
     pub planned : {x : Cursor} → total ≤ room → (0 < length (schemaOf bs .keys) → Starts bs x) → Planned bs ws room (record { answer = record { code = 𝟘; count = total }; at = x })
     unfolding listAnswer listed workOf

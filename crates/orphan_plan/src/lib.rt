@@ -2,7 +2,6 @@
 ghost use mathlib.Core.Path.{_≡_};
 ghost use Prim.Native.Nat.{_<_};
 ghost use Rattle.schema.specs.Fields.{schemaOf};
-ghost use Rattle.schema.specs.Check.{checkSchema};
 ghost use Rattle.rules.specs.OrphanList.{orphanTotal};
 ghost use Rattle.bridge.specs.Fit.{workOf};
 ghost use Rattle.bridge.specs.Ready.{Ready, Sound};
@@ -11,7 +10,7 @@ ghost use Rattle.orphan_scan.specs.Scan.{Unfinished, Next};
 use orphan_scan::Cursor;
 use rules::Listed;
 use rules::Refusal;
-use schema::SchemaAnswer;
+use rules::Verdict;
 
 // The answer, and where the search stands: while the list is written, behind the last orphan found.
 pub struct Plan {
@@ -68,27 +67,13 @@ fn plan_rows(schema: &[u8], area: &[i64], room: usize) -> Plan
     }
 }
 
-// The plan under an accepted schema: refusals 3, 10 and 22.
-fn plan_area(schema: &[u8], area: &[i64], room: usize) -> Plan
-    requires { ⌜ checkSchema (now schema) ≡ SchemaAnswer.Accepted ⌝ }
-    ensures { λ x. ⌜ Planned (now (schema .entry)) (now (area .entry)) room x ⌝ }
-{
-    if area.len() != fields::area_length(schema) {
-        return refused(Refusal::WrongLength);
-    }
-    if !area_form::is_undamaged(schema, area) {
-        return refused(Refusal::Damaged);
-    }
-    plan_rows(schema, area, room)
-}
-
 // The plan: refusals 1, 3, 10 and 22.
 pub fn plan_list(schema: &[u8], area: &[i64], room: usize) -> Plan
     ensures { λ x. ⌜ Planned (now (schema .entry)) (now (area .entry)) room x ⌝ }
 {
-    match schema_check::check_schema(schema) {
-        SchemaAnswer::Malformed => refused(Refusal::SchemaMalformed),
-        SchemaAnswer::Accepted => plan_area(schema, area, room),
+    match questions::area_verdict(schema, area) {
+        Verdict::Fail(refusal) => refused(refusal),
+        Verdict::Pass => plan_rows(schema, area, room),
     }
 }
 

@@ -1,28 +1,29 @@
 use mathlib.Core.Path.{sym, _∙_}
 use borrow.Author.Needs.{needs}
-use Rattle.orphan_plan.proofs.PlanLaws.{malformed}
+use Rattle.bridge.proofs.QuestionLaws.{passes-sound}
+use Rattle.orphan_plan.proofs.PlanLaws.{refused-area}
 use Rattle.orphan_plan.proofs.plan_list.Statement.{statement}
 use Rattle.orphan_plan.proofs.plan_list.Tie as tie
 
-check-schema-requires : tie.Need-check-schema-requires
-check-schema-requires c κs = search needs
+area-verdict-requires : tie.Need-area-verdict-requires
+area-verdict-requires c κs = search needs
 
-enum-told : tie.Need-enum-told
-enum-told c = search needs
+enum-known-refusal : tie.Need-enum-known-refusal
+enum-known-refusal c = search needs
 
 refused-requires : tie.Need-refused-requires
 refused-requires c κs = search needs
 
-enum-told-2 : tie.Need-enum-told-2
-enum-told-2 c = search needs
+enum-told : tie.Need-enum-told
+enum-told c = search needs
 
-plan-area-requires : tie.Need-plan-area-requires
-plan-area-requires c κs = sym (c .before .before .check-schema .ensures) ∙ c .enum-told2 .given .1
+plan-rows-requires : tie.Need-plan-rows-requires
+plan-rows-requires c κs = passes-sound _ _ (sym (c .before .before .area-verdict .ensures) ∙ c .enum-told .given .1)
 
 returns : tie.Need-returns
 returns c =
-    let s = c .before .before .before .before .before in
-    malformed (s .args .schema .now) (s .args .area .now) (s .args .room) (c .refused .ensures) (sym (c .before .before .before .check-schema .ensures) ∙ c .before .enum-told .given .1)
+    let a = c .before .before .before .before .before .before .args in
+    refused-area (a .schema .now) (a .area .now) (a .room) _ (c .refused .ensures) (sym (c .before .before .before .before .area-verdict .ensures) ∙ c .before .before .refusal .given .1)
 
 returns-2 : tie.Need-returns-2
 returns-2 c = search needs
@@ -31,10 +32,10 @@ pub plan-list-spec : {M : Type 1} → statement M
 plan-list-spec =
     tie.close
     (tie.spec
-    check-schema-requires
-    enum-told
+    area-verdict-requires
+    enum-known-refusal
     refused-requires
-    enum-told-2
-    plan-area-requires
+    enum-told
+    plan-rows-requires
     returns
     returns-2)
