@@ -107,7 +107,8 @@ fn row_bound(cleared: usize, state: usize) -> usize
     if !rows::is_live(state) {
         return 0;
     }
-    1 + numbers::ones_of(cleared - (cleared & state))
+    let columns = numbers::ones_of(cleared - (cleared & state));
+    1 + columns
 }
 
 // The sum over the rows of table t.

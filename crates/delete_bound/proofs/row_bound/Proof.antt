@@ -11,10 +11,12 @@ is-live-requires : tie.Need-is-live-requires
 is-live-requires c κs = search needs
 
 returns : tie.Need-returns
-returns c = (vacant-bound _ _ (sym (c .before .is-live .ensures) ∙ not-true _ (c .if1 .taken)), omega arith)
+returns c =
+    let a = c .before .before .args in
+    (vacant-bound (a .cleared) (a .state) (sym (c .before .is-live .ensures) ∙ not-true _ (c .if1 .taken)), omega arith)
 
 sub-ones-of : tie.Need-sub-ones-of
-sub-ones-of c = let a = c .before .before .args in omega (arith, and-le-l (a .cleared) (a .state))
+sub-ones-of c = and-le-l _ _
 
 ones-of-requires : tie.Need-ones-of-requires
 ones-of-requires c κs = search needs
@@ -25,8 +27,9 @@ add-result c = let s = c .before .before .before in omega (arith, ones-few (s .a
 returns-2 : tie.Need-returns-2
 returns-2 c =
     let s = c .before .before .before in
-    let e = c .ones-of .ensures in
-    (live-bound _ _ (s .pre) e (sym (c .before .before .is-live .ensures) ∙ not-false _ (c .before .if1 .left)), omega (arith, ones-few (s .args .cleared) (s .args .state) (s .pre) e))
+    let a = s .args in
+    let live = sym (c .before .before .is-live .ensures) ∙ not-false _ (c .before .if1 .left) in
+    (live-bound (a .cleared) (a .state) (s .pre) (c .ones-of .ensures) live, omega (arith, ones-few (a .cleared) (a .state) (s .pre) (c .ones-of .ensures)))
 
 pub row-bound-spec : {M : Type 1} → statement M
 row-bound-spec =

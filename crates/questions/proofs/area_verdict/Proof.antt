@@ -1,5 +1,6 @@
 use mathlib.Core.Path.{sym, _∙_}
 use borrow.Author.Needs.{needs}
+use Rattle.rules.specs.declared.Verdict.the-variants.{Pass}
 use Rattle.bridge.proofs.QuestionLaws.{malformed-first}
 use Rattle.questions.proofs.area_verdict.Statement.{statement}
 use Rattle.questions.proofs.area_verdict.Tie as tie
@@ -19,7 +20,7 @@ words-verdict-requires c κs = sym (c .before .before .check-schema .ensures) �
 returns : tie.Need-returns
 returns c =
     let s = c .before .before .before .before in
-    sym (malformed-first (s .args .schema .now) (s .args .area .now) (sym (c .before .before .check-schema .ensures) ∙ c .enum-told .given .1) _)
+    sym (malformed-first (s .args .schema .now) (s .args .area .now) (sym (c .before .before .check-schema .ensures) ∙ c .enum-told .given .1) Pass)
 
 returns-2 : tie.Need-returns-2
 returns-2 c = search needs
