@@ -1,7 +1,7 @@
 -- The columns that SET NULL on delete can clear, looked for one by one.
 -- Assumes nothing.
 use mathlib.Core.Path.{_≡_, sym, ap, _∙_}
-use mathlib.Core.Bool.{Bool, true, false}
+use mathlib.Core.Bool.{true, false}
 use mathlib.Core.List.{List}
 use Prim.Native.Nat.{ℕ, _+_, _≤_, _<_}
 use native.Mathlib.Omega.{arith}
@@ -9,34 +9,10 @@ use borrow.Author.Tests.{eq-eqb, ne-eqb}
 use lib.Dec.{eqb}
 use lib.ListN.{length, getD, take, drop}
 use lib.Seq.{getD-take, length-take-le}
-use Rattle.schema.specs.declared.Action.{Action}
-use Rattle.schema.specs.declared.Action.the-variants.{NoAction, Restrict, SetNull, SetDefault, Cascade}
 use Rattle.schema.specs.Records.{ForeignKey, childKey}
 use Rattle.rules.specs.Lists.{any}
 use Rattle.rules.specs.DeleteBound.{isSetNull, clears}
 use Rattle.bridge.proofs.LoopLaws.{any-none, any-hit, any-miss}
-
--- ---- SET NULL
-module _ {a : Action} where
-  pub set-null-yes : a ≡ SetNull → true ≡ isSetNull a
-  unfolding isSetNull
-  set-null-yes e = rw e
-
-  pub none-no : a ≡ NoAction → false ≡ isSetNull a
-  unfolding isSetNull
-  none-no e = rw e
-
-  pub restrict-no : a ≡ Restrict → false ≡ isSetNull a
-  unfolding isSetNull
-  restrict-no e = rw e
-
-  pub default-no : a ≡ SetDefault → false ≡ isSetNull a
-  unfolding isSetNull
-  default-no e = rw e
-
-  pub cascade-no : a ≡ Cascade → false ≡ isSetNull a
-  unfolding isSetNull
-  cascade-no e = rw e
 
 -- ---- a column among the first n
 module _ (n : ℕ) (cs : List ℕ) (c : ℕ) (few : n ≤ length cs) (i : ℕ) where

@@ -1,6 +1,6 @@
 -- The sum over the rows of a table and over the tables, as they stand in the area; the answer.
 -- Assumes nothing.
-use mathlib.Core.Path.{_≡_, refl, sym, ap, ap₂, _∙_}
+use mathlib.Core.Path.{_≡_, refl, sym, ap, _∙_}
 use mathlib.Core.List.{List, []}
 use Prim.Native.Nat.{ℕ, _+_, _*_, _≤_, _<_}
 use native.Mathlib.Numerals.{add-one}
@@ -13,7 +13,6 @@ use Rattle.schema.specs.Records.{Schema, tableOf}
 use Rattle.schema.specs.Fields.{schemaOf}
 use Rattle.rules.specs.declared.Refusal.{Refusal}
 use Rattle.rules.specs.declared.Verdict.the-variants.{Pass, Fail}
-use Rattle.rules.specs.declared.Numbered.{Numbered}
 use Rattle.rules.specs.Lists.{𝟘, any}
 use Rattle.rules.specs.Values.{natOf}
 use Rattle.rules.specs.Refusals.{number}
@@ -21,9 +20,9 @@ use Rattle.rules.specs.Rows.{Row, Tables}
 use Rattle.rules.specs.Questions.{areaVerdict, numberAnswer}
 use Rattle.rules.specs.DeleteBound.{clears, rowBound, rowsBound, tablesBound, deleteBound, areaBound, boundAnswer}
 use Rattle.bridge.specs.Fit.{workOf}
-use Rattle.bridge.specs.Ready.{Ready, rowIn}
+use Rattle.bridge.specs.Ready.{Ready}
 use Rattle.bridge.proofs.RowWords.{formed-fit, tabs-length}
-use Rattle.rows.specs.Standing.{Standing, RowAt, RowsOf, rowsIn}
+use Rattle.rows.specs.Standing.{RowAt, RowsOf}
 use Rattle.rows.specs.declared.TableRows.{TableRows}
 use Rattle.rows.proofs.CellLaws.{state-in}
 use Rattle.rows.proofs.TableLaws.{rows-many, row-get, row-at, rows-are, standing}

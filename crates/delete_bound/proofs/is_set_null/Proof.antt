@@ -1,5 +1,6 @@
+use mathlib.Core.Path.{refl}
 use borrow.Author.Needs.{needs}
-use Rattle.delete_bound.proofs.ClearLaws.{set-null-yes, none-no, restrict-no, default-no, cascade-no}
+use Rattle.rules.specs.DeleteBound.{isSetNull}
 use Rattle.delete_bound.proofs.is_set_null.Statement.{statement}
 use Rattle.delete_bound.proofs.is_set_null.Tie as tie
 
@@ -19,19 +20,24 @@ enum-told-5 : tie.Need-enum-told-5
 enum-told-5 c = search needs
 
 returns : tie.Need-returns
-returns c = set-null-yes (c .enum-told .given .1)
+unfolding isSetNull
+returns c = rw (c .enum-told .given .1) refl
 
 returns-2 : tie.Need-returns-2
-returns-2 c = none-no (c .enum-told2 .given .1)
+unfolding isSetNull
+returns-2 c = rw (c .enum-told2 .given .1) refl
 
 returns-3 : tie.Need-returns-3
-returns-3 c = restrict-no (c .enum-told3 .given .1)
+unfolding isSetNull
+returns-3 c = rw (c .enum-told3 .given .1) refl
 
 returns-4 : tie.Need-returns-4
-returns-4 c = default-no (c .enum-told4 .given .1)
+unfolding isSetNull
+returns-4 c = rw (c .enum-told4 .given .1) refl
 
 returns-5 : tie.Need-returns-5
-returns-5 c = cascade-no (c .enum-told5 .given .1)
+unfolding isSetNull
+returns-5 c = rw (c .enum-told5 .given .1) refl
 
 pub is-set-null-spec : {M : Type 1} → statement M
 is-set-null-spec =
