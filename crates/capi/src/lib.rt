@@ -80,7 +80,7 @@ pub extern "C" fn hoofbook_list_orphans(schema: &[u8], area: &[i64], list: &mut 
     plan.answer
 }
 
-// How much one delete can touch, or refuses by 1, 3 or 10.
+// Answers how much one delete can touch, or refuses by 1, 3 or 10.
 #[no_mangle]
 pub extern "C" fn hoofbook_delete_bound(schema: &[u8], area: &[i64]) -> Numbered
     ensures { λ x. ⌜ x ≡ boundAnswer (now (schema .entry)) (now (area .entry)) ⌝ }

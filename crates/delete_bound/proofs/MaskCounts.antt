@@ -6,10 +6,10 @@ use Prim.Native.Nat.{ℕ, zero, suc, _+_, _-_, _/_, _%_, _^_, _<_, min}
 use native.Mathlib.Nat.{pow-suc}
 use native.Mathlib.Omega.{arith}
 use lib.Bits.{bitAnd, and-step, and-le-l}
-use lib.Count.{ones, onesIn, ones-step}
+use lib.Count.{ones, ones-step}
 use lib.Dec.{eqb}
 use Rattle.schema.specs.Bytes.{bit}
-use Rattle.schema.proofs.MaskLaws.{bit-zero, bit-suc}
+use Rattle.schema.proofs.MaskLaws.{bit-suc, bit-zero, no-ones}
 use Rattle.rules.specs.Lists.{count, one, upFrom}
 use Rattle.bridge.proofs.CountLaws.{count-cons}
 use Rattle.delete_bound.specs.StateBound.{notNullOf}
@@ -53,13 +53,9 @@ module _ (m s : ℕ) where
       let e : (m - bitAnd m s) % 2 ≡ m % 2 - min (m % 2) (s % 2) = omega (arith, and-step m s, and-le-l (m / 2) (s / 2)) in
       e ∙ digit-left (m % 2) (s % 2) (omega arith) (omega arith) ∙ ap₂ (λ (x y : Bool). one (not x && y)) (sym (bit-zero s)) (sym (bit-zero m))
 
-none-left : (s : ℕ) → ones (0 - bitAnd 0 s) ≡ 0
-unfolding ones onesIn
-none-left s = refl
-
 pub ones-left : (n m s : ℕ) → m < 2 ^ n → ones (m - bitAnd m s) ≡ notNullOf n m s
 unfolding notNullOf upFrom count
-ones-left zero m s h = let e : m ≡ 0 = omega arith in rw e (none-left s)
+ones-left zero m s h = let e : m ≡ 0 = omega arith in rw e no-ones
 ones-left (suc n) m s h =
     let p : ℕ → Bool = λ c. not (bit c s) && bit c m in
     let rest : ones ((m - bitAnd m s) / 2) ≡ count p (upFrom 1 n) =

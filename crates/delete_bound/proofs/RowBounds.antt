@@ -32,11 +32,8 @@ module _ (cleared state : ℕ) where
 -- it is the row's part by the rules
 pub row-bound : (s : Schema) (t : ℕ) {m : ℕ} → Marks (λ c. any (clears t c) (s .keys)) (tableOf s t .columns) m → m < 256 → (x : Row) → stateBound m (natOf (getD x 0 𝟘)) ≡ rowBound s t x
 unfolding stateBound rowBound live notNullOf clearable nullAt
-row-bound s t {m} marks few x = ap (λ (n : ℕ). elim (liveState state) [ true ↦ suc n | false ↦ 0 ]) columns
+row-bound s t {m} marks few x = ap (λ (n : ℕ). elim (live x) [ true ↦ suc n | false ↦ 0 ]) columns
   where
-    state : ℕ
-    state = natOf (getD x 0 𝟘)
-
     columns : notNullOf 8 m (natOf (getD x 0 𝟘)) ≡ count (clearable s t x) (upFrom 0 (tableOf s t .columns))
     columns =
         sym (ones-left 8 m (natOf (getD x 0 𝟘)) few)

@@ -51,9 +51,6 @@ module _ (bs : List ℕ) (a : List ℤ) (h : Ready bs a) (t : ℕ) (l : t < leng
   many : length (tableRows bs a t) ≡ x .count
   many = ap length (sym (rows-are bs a h t l x e)) ∙ rows-many a x
 
-  pub count-few : x .count ≤ 1024
-  count-few = standing bs a h t l x e .few
-
   module _ (j : ℕ) where
     pub left-none : x .count ≤ j → rowsLeft bs a t j ≡ 0
     left-none m = rows-none (schemaOf bs) t (tableRows bs a t) j (omega (arith, many))

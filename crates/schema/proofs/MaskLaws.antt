@@ -31,7 +31,7 @@ bit-over c m h = let e : m / 2 ^ c ≡ 0 = div-eq-of-lt h in rw e
 pub bit-none : (c : ℕ) → bit c 0 ≡ false
 bit-none c = bit-over c 0 (pow-pos c)
 
-no-ones : ones 0 ≡ 0
+pub no-ones : ones 0 ≡ 0
 unfolding ones onesIn
 no-ones = refl
 

@@ -3,7 +3,8 @@ use Prim.Native.Nat.{_+_, _*_, _-_, _≤_}
 use native.Mathlib.Nat.{zero-add}
 use native.Mathlib.Omega.{arith}
 use borrow.Author.Needs.{needs}
-use Rattle.delete_bound.proofs.TableBounds.{rowsLeft, count-few, left-none, left-more, row-here}
+use Rattle.rows.proofs.TableLaws.{standing}
+use Rattle.delete_bound.proofs.TableBounds.{rowsLeft, left-none, left-more, row-here}
 use Rattle.delete_bound.proofs.rows_bound.Statement.{statement}
 use Rattle.delete_bound.proofs.rows_bound.Tie as tie
 
@@ -46,7 +47,7 @@ row-bound-requires c κs = c .before .before .before .cleared-columns .ensures .
 add-bound : tie.Need-add-bound Inv-loop μ-loop
 add-bound c =
     let s = c .before .before .before .before .before .before .before in
-    let few = count-few _ _ (s .pre .0) _ (s .pre .1) _ (c .before .before .before .before .before .rows-of .ensures) in
+    let few = standing _ _ (s .pre .0) _ (s .pre .1) _ (c .before .before .before .before .before .rows-of .ensures) .few in
     omega (arith, few, c .before .before .loop-test .taken, c .row-bound .ensures .1)
 
 add-j : tie.Need-add-j Inv-loop μ-loop
@@ -68,7 +69,7 @@ returns c =
     let s = c .before .before .before .before .before in
     let l = c .before .loop in
     let rows-of = c .before .before .before .rows-of in
-    let few = count-few _ _ (s .pre .0) _ (s .pre .1) _ (rows-of .ensures) in
+    let few = standing _ _ (s .pre .0) _ (s .pre .1) _ (rows-of .ensures) .few in
     let none = left-none _ _ (s .pre .0) _ (s .pre .1) _ (rows-of .ensures) (l .j) (c .loop-test .left) in
     (omega (arith, none, l .inv .1 .1), omega (arith, few))
 
