@@ -16,9 +16,14 @@ impl<K: Display + Ord> Counts<K> {
         self.0.values().sum()
     }
 
+    /// The count of one of them.
+    pub fn count(&self, thing: &K) -> usize {
+        self.0.get(thing).copied().unwrap_or(0)
+    }
+
     /// The names of these things, each with its count.
     pub fn of(&self, things: &[K]) -> Vec<(String, usize)> {
-        let count = |thing: &K| self.0.get(thing).copied().unwrap_or(0);
-        things.iter().map(|k| (k.to_string(), count(k))).collect()
+        let named = |thing: &K| (thing.to_string(), self.count(thing));
+        things.iter().map(named).collect()
     }
 }

@@ -1,6 +1,6 @@
 //! What is printed of an operation on which an engine and the model differ.
 
-use crate::engine::{Answer, Listed, Orphan};
+use crate::engine::{Answer, Listed, Numbered, Orphan};
 use std::fmt::Display;
 
 pub fn hex(bytes: &[u8]) -> String {
@@ -63,6 +63,22 @@ pub fn of_list(
         expected,
         first_unequal("record", found_list, expected_list),
         room,
+        hex(schema),
+        words(area)
+    )
+}
+
+/// Both delete bounds of an area, and the area after the engine's, which is to be as it was.
+pub fn of_bound(
+    (schema, area): (&[u8], &[i64]),
+    (found, found_words): (Numbered, &[i64]),
+    expected: Numbered,
+) -> String {
+    format!(
+        "delete bound {}, model {}; {}; schema {}; area {}",
+        found,
+        expected,
+        first_words(found_words, area),
         hex(schema),
         words(area)
     )

@@ -49,6 +49,30 @@ impl fmt::Display for Listed {
     }
 }
 
+/// The answer of a question that asks for one number.
+#[repr(C)]
+#[derive(Clone, Copy, Debug, PartialEq)]
+pub struct Numbered {
+    pub code: i64,
+    pub number: i64,
+}
+
+impl Numbered {
+    pub fn told(number: i64) -> Numbered {
+        Numbered { code: 0, number }
+    }
+
+    pub fn refused(code: i64) -> Numbered {
+        Numbered { code, number: 0 }
+    }
+}
+
+impl fmt::Display for Numbered {
+    fn fmt(&self, out: &mut fmt::Formatter) -> fmt::Result {
+        write!(out, "{},{}", self.code, self.number)
+    }
+}
+
 /// A record of the orphan list.
 #[repr(C)]
 #[derive(Clone, Copy, Debug, PartialEq, PartialOrd, Eq, Ord)]
@@ -80,6 +104,9 @@ pub trait Engine {
     fn make_fresh(&self, schema: &[u8], area: &mut [i64]) -> i64;
     fn call(&self, schema: &[u8], area: &mut [i64], call: &[i64]) -> Answer;
     fn list_orphans(&self, schema: &[u8], area: &[i64], list: &mut [Orphan]) -> Listed;
+    /// How many rows one delete can touch. Nothing is to be written: the area is lent as one that can be
+    /// written to, so that it is seen if it is.
+    fn delete_bound(&self, schema: &[u8], area: &mut [i64]) -> Numbered;
 }
 
 extern "C" {
@@ -107,6 +134,12 @@ extern "C" {
         list: *mut Orphan,
         list_len: usize,
     ) -> Listed;
+    fn hoofbook_delete_bound(
+        schema: *const u8,
+        schema_len: usize,
+        area: *const i64,
+        area_len: usize,
+    ) -> Numbered;
 }
 
 /// The engine of the library that the tests are linked with.
@@ -138,5 +171,10 @@ impl Engine for Built {
         let (at, words) = (area.as_ptr(), area.len());
         let (records, room) = (list.as_mut_ptr(), list.len());
         unsafe { hoofbook_list_orphans(bytes, length, at, words, records, room) }
+    }
+
+    fn delete_bound(&self, schema: &[u8], area: &mut [i64]) -> Numbered {
+        let (at, words) = (area.as_mut_ptr(), area.len());
+        unsafe { hoofbook_delete_bound(schema.as_ptr(), schema.len(), at, words) }
     }
 }

@@ -158,3 +158,12 @@ pub fn all_orphans(ground: &Ground) -> Vec<i64> {
     }
     area.words
 }
+
+/// Every row of every table has these values.
+pub fn all_alike(ground: &Ground, row: &Row) -> Vec<i64> {
+    let mut area = ground.area(&ground.fresh());
+    for (number, table) in ground.schema.tables.iter().enumerate() {
+        (0..table.rows).for_each(|place| area.put_row(number, place, Some(row)));
+    }
+    area.words
+}

@@ -1,10 +1,12 @@
 //! Random schemas, areas and calls for the tests of the engine's calls and orphan lists.
 
 pub mod areas;
+pub mod bounded;
 pub mod broken_key_calls;
 pub mod broken_keys;
 pub mod calls;
 pub mod damages;
+pub mod delete_calls;
 pub mod folded;
 pub mod folded_calls;
 pub mod grounds;

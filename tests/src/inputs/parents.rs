@@ -1,6 +1,6 @@
 //! Changes of rows that others refer to.
 
-use super::calls::{another, row_call};
+use super::calls::{another, row_call, Numbered};
 use super::grounds::Ground;
 use crate::model::area::Area;
 use crate::model::keys::{full, maps};
@@ -10,12 +10,7 @@ use crate::random::Random;
 /// The deletion of a row that a child row refers to, or a change of its key. None where a child row
 /// picked at random has no parent.
 pub fn any(r: &mut Random, ground: &Ground, area: &Area) -> Option<Vec<i64>> {
-    let keys = &ground.schema.keys;
-    if keys.is_empty() {
-        return None;
-    }
-    let key = &keys[r.between(0, keys.len() - 1)];
-    let (row, parent) = referred_to(r, area, key)?;
+    let (key, (row, parent)) = some_parent(r, ground, area)?;
     if r.once_in(2) {
         return Some(row_call(3, key.parent, row, &[]));
     }
@@ -23,8 +18,25 @@ pub fn any(r: &mut Random, ground: &Ground, area: &Area) -> Option<Vec<i64>> {
     Some(row_call(2, key.parent, row, &new))
 }
 
-/// The parent of some child row.
-fn referred_to(r: &mut Random, area: &Area, key: &Key) -> Option<(usize, Row)> {
+/// The deletion of a row that a child row refers to. None as above.
+pub fn deletion(r: &mut Random, ground: &Ground, area: &Area) -> Option<Vec<i64>> {
+    let (key, (row, _)) = some_parent(r, ground, area)?;
+    Some(row_call(3, key.parent, row, &[]))
+}
+
+/// The parent of some child row, and the key by which that refers to it.
+fn some_parent<'a>(r: &mut Random, ground: &'a Ground, area: &Area) -> Option<(&'a Key, Numbered)> {
+    let keys = &ground.schema.keys;
+    if keys.is_empty() {
+        return None;
+    }
+    let key = &keys[r.between(0, keys.len() - 1)];
+    let parent = referred_to(r, area, key)?;
+    Some((key, parent))
+}
+
+/// The parent of some child row by this key.
+fn referred_to(r: &mut Random, area: &Area, key: &Key) -> Option<Numbered> {
     let mut wanted: Vec<Row> = area
         .live_rows(key.child)
         .iter()

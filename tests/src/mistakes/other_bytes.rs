@@ -1,7 +1,7 @@
 //! Engines that take other schema bytes for those that they are handed.
 
 use super::Named;
-use crate::engine::{Answer, Engine, Listed, Orphan};
+use crate::engine::{Answer, Engine, Listed, Numbered, Orphan};
 use crate::model::Model;
 
 /// A name, and what is done to the bytes.
@@ -47,5 +47,9 @@ impl Engine for Reading {
 
     fn list_orphans(&self, schema: &[u8], area: &[i64], list: &mut [Orphan]) -> Listed {
         self.model.list_orphans(&self.of(schema), area, list)
+    }
+
+    fn delete_bound(&self, schema: &[u8], area: &mut [i64]) -> Numbered {
+        self.model.delete_bound(&self.of(schema), area)
     }
 }

@@ -1,13 +1,20 @@
 //! The paper's worthless engines that no single rule makes.
 
 use super::Named;
-use crate::engine::{Answer, Engine, Listed, Orphan};
+use crate::engine::{Answer, Engine, Listed, Numbered, Orphan};
 use crate::model::Model;
 
-/// The model, but for its calls.
+/// The answer to a call, given the model.
+type AnswerCall = fn(&Model, &[u8], &mut [i64], &[i64]) -> Answer;
+
+/// The answer to the question how much one delete can touch, given the model.
+pub type TellBound = fn(&Model, &[u8], &mut [i64]) -> Numbered;
+
+/// The model, but for its calls or its delete bounds.
 struct Worthless {
     model: Model,
-    call: fn(&Model, &[u8], &mut [i64], &[i64]) -> Answer,
+    call: AnswerCall,
+    bound: TellBound,
 }
 
 pub fn all() -> Vec<Named> {
@@ -25,13 +32,20 @@ pub fn all() -> Vec<Named> {
 }
 
 /// The model with other answers to calls.
-pub fn with_calls(
-    name: &'static str,
-    call: fn(&Model, &[u8], &mut [i64], &[i64]) -> Answer,
-) -> Named {
+pub fn with_calls(name: &'static str, call: AnswerCall) -> Named {
+    with_answers(name, call, Model::delete_bound)
+}
+
+/// The model with other delete bounds.
+pub fn with_bounds(name: &'static str, bound: TellBound) -> Named {
+    with_answers(name, Model::call, bound)
+}
+
+fn with_answers(name: &'static str, call: AnswerCall, bound: TellBound) -> Named {
     let engine = Worthless {
         model: Model::of_the_paper(),
         call,
+        bound,
     };
     (name, Box::new(engine))
 }
@@ -55,5 +69,9 @@ impl Engine for Worthless {
 
     fn list_orphans(&self, schema: &[u8], area: &[i64], list: &mut [Orphan]) -> Listed {
         self.model.list_orphans(schema, area, list)
+    }
+
+    fn delete_bound(&self, schema: &[u8], area: &mut [i64]) -> Numbered {
+        (self.bound)(&self.model, schema, area)
     }
 }

@@ -1,6 +1,7 @@
 //! A reference model of the record engine, written from the paper: plain and slow.
 
 pub mod area;
+pub mod bound;
 pub mod change;
 pub mod damage;
 pub mod folding;
@@ -17,7 +18,7 @@ pub mod transaction;
 pub mod walk;
 pub mod windows;
 
-use crate::engine::{Answer, Engine, Listed, Orphan};
+use crate::engine::{Answer, Engine, Listed, Numbered, Orphan};
 use area::Area;
 use change::Change;
 use form::Call;
@@ -90,10 +91,20 @@ impl Model {
 
     /// The orphans of an area in the sequence of the list, or refusal 1, 3 or 10.
     pub fn orphans(&self, schema: &[u8], area: &[i64]) -> Result<Vec<Orphan>, i64> {
+        self.asked(schema, area, |book| list::orphans(&self.rules, book))
+    }
+
+    /// What is told of an area, or refusal 1, 3 or 10, in this order.
+    fn asked<T>(
+        &self,
+        schema: &[u8],
+        area: &[i64],
+        told: impl FnOnce(&Area) -> T,
+    ) -> Result<T, i64> {
         let schema = (self.rules.read)(schema)?;
         let book = of_length(&schema, area)?;
         self.judge_damage(&book)?;
-        Ok(list::orphans(&self.rules, &book))
+        Ok(told(&book))
     }
 }
 
@@ -145,5 +156,10 @@ impl Engine for Model {
                 Listed { code, count: 0 }
             }
         }
+    }
+
+    fn delete_bound(&self, schema: &[u8], area: &mut [i64]) -> Numbered {
+        let sum = self.asked(schema, area, |book| bound::sum(self.rules.bound, book));
+        sum.map_or_else(Numbered::refused, Numbered::told)
     }
 }

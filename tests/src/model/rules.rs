@@ -2,6 +2,7 @@
 //! replaced. `of_the_paper` gives the paper's own.
 
 use super::area::Area;
+use super::bound;
 use super::change::{self, Check, Kind};
 use super::damage;
 use super::form;
@@ -99,6 +100,8 @@ pub struct Rules {
     pub too_short: fn(&[Orphan], &mut [Orphan]),
     /// What a refusal leaves in a list.
     pub list_refused: fn(&mut [Orphan]),
+    /// How the sum that bounds a delete is counted.
+    pub bound: bound::Reading,
 }
 
 impl Rules {
@@ -143,6 +146,7 @@ impl Rules {
             write_list: list::write_records,
             too_short: |_, _| {},
             list_refused: |_| {},
+            bound: bound::PAPER,
         }
     }
 }

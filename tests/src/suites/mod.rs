@@ -2,6 +2,7 @@
 
 mod broken_keys;
 mod child_rows;
+mod delete_bounds;
 mod edges;
 mod folded;
 mod half_filled;
@@ -33,6 +34,7 @@ pub const ALL: &[(&str, Suite)] = &[
     ("folded", folded::run),
     ("windows", windows::run),
     ("orphan_lists", orphan_lists::run),
+    ("delete_bounds", delete_bounds::run),
     ("replay", replay::run),
     ("edges", edges::run),
     ("sqlite", sqlite::run),

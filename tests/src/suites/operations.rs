@@ -5,12 +5,12 @@ use crate::engine::Built;
 use crate::model::search;
 use crate::random::Random;
 use crate::report::Report;
-use crate::trials::lent_list;
 use crate::trials::operations::Operations;
 use crate::trials::search_situations::SITUATIONS;
 use crate::trials::searches::{self, OfKind, Searches};
+use crate::trials::{lent_list, told_bound};
 
-/// How many calls there are to be, and how many calls and orphan lists of each code.
+/// How many calls there are to be, and how many calls, orphan lists and delete bounds of each code.
 const LEAST_CALLS: usize = 300_000;
 const LEAST_OF_A_CODE: usize = 100;
 
@@ -30,17 +30,21 @@ pub fn run(r: &mut Random, report: &mut Report) {
         outcome = operations.trial(&Built, r);
     }
     let (calls, lists) = (&operations.calls, &operations.lists.codes);
+    let bounds = &operations.bounds.codes;
     println!(
-        "{} operations compared with the model: {} calls, {} orphan lists, {} others",
-        calls.sum() + lists.sum() + operations.others,
+        "{} operations compared with the model: {} calls, {} orphan lists, {} delete bounds, {} others",
+        calls.sum() + lists.sum() + bounds.sum() + operations.others,
         calls.sum(),
         lists.sum(),
+        bounds.sum(),
         operations.others
     );
     report.test("single operations", outcome);
     report.counts("calls by code", LEAST_OF_A_CODE, &calls.of(CODES));
     let lists = lists.of(lent_list::CODES);
     report.counts("orphan lists by code", LEAST_OF_A_CODE, &lists);
+    let bounds = bounds.of(told_bound::CODES);
+    report.counts("delete bounds by code", LEAST_OF_A_CODE, &bounds);
     report_searches(report, &operations.searches);
 }
 

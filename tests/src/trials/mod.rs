@@ -1,5 +1,7 @@
 //! Comparisons of an engine with the model, with itself and with SQLite, on random inputs.
 
+pub mod bound_situations;
+pub mod bounded_deletes;
 pub mod broken_by;
 pub mod broken_keys;
 pub mod broken_keys_seen;
@@ -7,6 +9,8 @@ pub mod broken_keys_situations;
 pub mod by_outcome;
 pub mod child_rows;
 pub mod compared;
+pub mod delete_bounds;
+pub mod delete_situations;
 pub mod every_byte;
 pub mod every_day;
 pub mod every_parent;
@@ -30,6 +34,7 @@ pub mod situations;
 pub mod sqlite;
 pub mod sqlite_names;
 pub mod sqlite_statements;
+pub mod told_bound;
 pub mod trace;
 pub mod walk_situations;
 pub mod walks;

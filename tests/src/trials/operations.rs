@@ -4,6 +4,7 @@ use super::compared::{self, Input};
 use super::lent_list::LentLists;
 use super::origins::Origin;
 use super::searches::Searches;
+use super::told_bound::ToldBounds;
 use crate::counts::Counts;
 use crate::differences::{hex, words};
 use crate::engine::Engine;
@@ -21,6 +22,7 @@ pub struct Operations {
     /// The calls of kinds 10 and 11 among them.
     pub searches: Searches,
     pub lists: LentLists,
+    pub bounds: ToldBounds,
     pub others: usize,
 }
 
@@ -31,6 +33,7 @@ impl Operations {
             calls: Counts::default(),
             searches: Searches::new(),
             lists: LentLists::new(),
+            bounds: ToldBounds::new(),
             others: 0,
         }
     }
@@ -59,21 +62,33 @@ impl Operations {
             let area = damages::of_wrong_length(r, area);
             self.call(engine, (&g.bytes, &area, &call), Origin::Damaged)?;
             self.fresh(engine, &g.bytes, &area)?;
-            self.lists.compare(engine, r, &g.bytes, &area)?;
+            self.ask(engine, r, (&g.bytes, &area))?;
         }
         if r.once_in(10) {
             let schema = other_schemas::altered(r, g);
             self.call(engine, (&schema, area, &call), Origin::Damaged)?;
             self.fresh(engine, &schema, area)?;
-            self.lists.compare(engine, r, &schema, area)?;
+            self.ask(engine, r, (&schema, area))?;
         }
         if r.once_in(10) {
             self.fresh(engine, &g.bytes, &damaged)?;
-            self.lists.compare(engine, r, &g.bytes, &damaged)?;
+            self.ask(engine, r, (&g.bytes, &damaged))?;
         }
         if r.once_in(4) {
-            self.lists.compare(engine, r, &g.bytes, area)?;
+            self.ask(engine, r, (&g.bytes, area))?;
         }
+        Ok(())
+    }
+
+    /// Compares what is told of an area: its orphan list and its delete bound.
+    fn ask(
+        &mut self,
+        engine: &dyn Engine,
+        r: &mut Random,
+        (schema, area): (&[u8], &[i64]),
+    ) -> Outcome {
+        self.lists.compare(engine, r, schema, area)?;
+        self.bounds.compare(engine, schema, area)?;
         Ok(())
     }
 

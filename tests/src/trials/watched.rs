@@ -1,9 +1,10 @@
-//! Calls and orphan lists of one sort: an engine against the model, with what is to be seen in them
-//! counted.
+//! Calls, orphan lists and delete bounds of one sort: an engine against the model, with what is to be
+//! seen in them counted.
 
 use super::compared;
 use super::lent_list::LentLists;
 use super::origins::Origin;
+use super::told_bound::ToldBounds;
 use crate::counts::Counts;
 use crate::engine::Engine;
 use crate::inputs::grounds::Ground;
@@ -75,6 +76,7 @@ pub struct Watched {
     /// How many calls and lists showed each situation on the areas of each origin.
     pub met: [Counts<&'static str>; 3],
     pub lists: LentLists,
+    pub bounds: ToldBounds,
 }
 
 impl Watched {
@@ -85,6 +87,7 @@ impl Watched {
             codes: Counts::default(),
             met: Default::default(),
             lists: LentLists::new(),
+            bounds: ToldBounds::new(),
         }
     }
 
@@ -97,10 +100,10 @@ impl Watched {
             if r.once_in(2) {
                 let damaged = (self.sort.damaged)(r, ground, &area);
                 self.call(engine, ground, (&damaged, &call), Origin::Damaged)?;
-                self.list(engine, r, (ground, &damaged), Origin::Damaged)?;
+                self.ask(engine, r, (ground, &damaged), Origin::Damaged)?;
             }
             area = self.call(engine, ground, (&area, &call), start.origin)?;
-            self.list(engine, r, (ground, &area), start.origin)?;
+            self.ask(engine, r, (ground, &area), start.origin)?;
         }
         Ok(())
     }
@@ -128,8 +131,8 @@ impl Watched {
         Ok(after)
     }
 
-    /// Compares an orphan list once in four times.
-    fn list(
+    /// Compares an orphan list and a delete bound once in four times.
+    fn ask(
         &mut self,
         engine: &dyn Engine,
         r: &mut Random,
@@ -137,6 +140,7 @@ impl Watched {
         origin: Origin,
     ) -> Outcome {
         if r.once_in(4) {
+            self.bounds.compare(engine, &ground.bytes, area)?;
             let compared = self.lists.compare(engine, r, &ground.bytes, area)?;
             if compared.code == 0 {
                 let area = ground.area(area);
