@@ -83,3 +83,20 @@ pub fn of_bound(
         words(area)
     )
 }
+
+/// A delete that its bound does not hold for, given how many journal records were free.
+pub fn of_delete(
+    (schema, area, call): (&[u8], &[i64], &[i64]),
+    (bound, free): (Numbered, i64),
+    answer: Answer,
+) -> String {
+    format!(
+        "answer {}, delete bound {}, {} records free; call {:?}; schema {}; area {}",
+        answer,
+        bound,
+        free,
+        call,
+        hex(schema),
+        words(area)
+    )
+}

@@ -1,6 +1,7 @@
 //! The edge cases of the paper as a text: each case with its schema and its calls in words, and the
 //! answers of an engine.
 
+mod bounds;
 mod broken_keys;
 mod folded;
 mod limits;
@@ -18,6 +19,7 @@ use crate::inputs::calls::{plain_call, row_call};
 use crate::model::schema::{Schema, Value};
 use crate::model::search::Search;
 use crate::schema_bytes::records::Schema as Records;
+use std::fmt::Display;
 use words::{call_words, row_lines, schema_lines};
 
 /// What is done in a case.
@@ -29,6 +31,8 @@ pub enum Step {
     ShowRows,
     /// Prints the orphan list as the engine gives it.
     ShowOrphans,
+    /// Prints how much one delete can touch, as the engine tells it.
+    ShowBound,
 }
 
 pub struct Case {
@@ -43,6 +47,7 @@ Code 0 is accepted, any other the number of the refusal; changed is the rows cha
 net is the change in all kept orphans. c0 is a table's first column. Where columns are folded,
 words are shown as their bytes, the lowest first: as text, or in hexadecimal. A windowed key has
 its first days in its last parent column, and its ends in the column that is named after it.
+After a delete bound, how many rows one delete can touch, stands its answer: code,number.
 ";
 
 pub fn all() -> Vec<Case> {
@@ -57,6 +62,7 @@ pub fn all() -> Vec<Case> {
         broken_keys::cases(),
         folded::cases(),
         windows::cases(),
+        bounds::cases(),
     ]
     .into_iter()
     .flatten()
@@ -79,8 +85,8 @@ fn run(engine: &dyn Engine, case: &Case) -> Vec<String> {
     for step in &case.steps {
         match step {
             Step::Call(call) => {
-                let answer = engine.call(&bytes, &mut area, call).to_string();
-                lines.push(format!("  {:<40} {}", call_words(&schema, call), answer));
+                let answer = engine.call(&bytes, &mut area, call);
+                lines.push(answered(&call_words(&schema, call), answer));
             }
             Step::SetWord(at, word) => {
                 area[*at] = *word;
@@ -88,10 +94,19 @@ fn run(engine: &dyn Engine, case: &Case) -> Vec<String> {
             }
             Step::ShowRows => lines.extend(row_lines(&schema, &area)),
             Step::ShowOrphans => lines.push(orphan_line(engine, &bytes, &area)),
+            Step::ShowBound => {
+                let bound = engine.delete_bound(&bytes, &mut area);
+                lines.push(answered("delete bound", bound));
+            }
         }
     }
     lines.push(String::new());
     lines
+}
+
+/// What an engine was asked, and its answer.
+fn answered(asked: &str, answer: impl Display) -> String {
+    format!("  {:<40} {}", asked, answer)
 }
 
 fn orphan_line(engine: &dyn Engine, schema: &[u8], area: &[i64]) -> String {

@@ -1,10 +1,9 @@
-//! Schemas for delete bounds: those whose deletes are bounded by the sum over all live rows, and
-//! others.
+//! Schemas whose deletes are bounded by the sum over all live rows, and areas with about as many free
+//! journal records.
 
 use super::grounds::{self, Ground};
-use super::{broken_keys, folded, half_filled, herds, populated, spellings, windows};
+use super::{broken_keys, folded, half_filled, herds, spellings, windows};
 use crate::model::bound::touches_parent_key;
-use crate::model::schema::Row;
 use crate::random::Random;
 use crate::schema_bytes::build;
 use crate::schema_bytes::records::{Key, Schema as Records, Table};
@@ -83,103 +82,6 @@ fn key(r: &mut Random, tables: &[Table]) -> Key {
     key.child_columns = valid::four(&from[..key.n()]);
     key.deferred = r.pick(&[0, 1, 1, 1]);
     key
-}
-
-/// A schema and an area in which a delete goes far: rows of later tables refer by all of their columns
-/// to rows of earlier ones, most often to the first, by keys that clear a column and, after them, by
-/// one that takes the row along. Inserts lead to it.
-pub fn herded(r: &mut Random) -> (Ground, Vec<i64>) {
-    let (tables, mut keys) = herd(r);
-    if !r.once_in(4) {
-        keys.sort_by_key(|key| key.on_delete);
-    }
-    with_rows(r, tables, keys)
-}
-
-/// The same, but some keys give NULL as a default in place of clearing: no delete is bounded.
-pub fn herded_by_default(r: &mut Random) -> (Ground, Vec<i64>) {
-    let (mut tables, mut keys) = herd(r);
-    for table in &mut tables {
-        table.default_null = valid::low_bits(table.columns.into());
-    }
-    for key in &mut keys {
-        if key.on_delete == build::SET_NULL && !r.once_in(3) {
-            key.on_delete = build::SET_DEFAULT;
-        }
-    }
-    with_rows(r, tables, keys)
-}
-
-/// The same, but c0 of later tables is cleared, and by that the columns that refer to it, which no
-/// deletion of their parent clears: no delete is bounded.
-pub fn herded_by_key(r: &mut Random) -> (Ground, Vec<i64>) {
-    let (mut tables, mut keys) = herd(r);
-    tables.iter_mut().for_each(|table| table.rows = 1);
-    for key in &mut keys {
-        (key.on_delete, key.on_update) = (build::NO_ACTION, build::SET_NULL);
-        key.deferred = 1;
-    }
-    for child in 1..tables.len() as u8 {
-        keys.push(to_earlier(r, (child, 0)));
-    }
-    with_rows(r, tables, keys)
-}
-
-fn with_rows(r: &mut Random, tables: Vec<Table>, keys: Vec<Key>) -> (Ground, Vec<i64>) {
-    let room = r.pick(&[20, 60, 200]);
-    let ground = Ground::new(Records::new(room, tables, keys), vec![0, 1, 2]);
-    let words = herded_rows(r, &ground);
-    let words = populated::with_level(r, &ground, 2, words);
-    (ground, words)
-}
-
-/// The tables of a herd, and its keys: the last of each table takes rows along.
-fn herd(r: &mut Random) -> (Vec<Table>, Vec<Key>) {
-    let mut table = || build::table(r.pick(&[1, 1, 2, 3]), r.pick(&[2, 3, 4, 5, 8]), &[1]);
-    let mut tables = vec![table(), table(), table(), table()];
-    tables.truncate(r.between(2, 4));
-    let mut keys: Vec<Key> = Vec::new();
-    for (child, table) in (0..).zip(&tables).skip(1) {
-        let columns = 1..table.columns;
-        keys.extend(columns.map(|column| to_earlier(r, (child, column))));
-        let last = keys.last_mut().expect("a table has two columns");
-        last.on_delete = build::CASCADE;
-    }
-    (tables, keys)
-}
-
-/// A key that clears a column, which refers to c0 of an earlier table.
-fn to_earlier(r: &mut Random, (child, column): (u8, u8)) -> Key {
-    let parent = r.between(0, usize::from(child) - 1) as u8;
-    Key {
-        on_update: r.between(0, 4) as u8,
-        deferred: r.between(0, 1) as u8,
-        matching: r.between(0, 1) as u8,
-        ..build::key((child, &[column]), (parent, &[0]), build::SET_NULL, 0)
-    }
-}
-
-fn herded_rows(r: &mut Random, ground: &Ground) -> Vec<i64> {
-    let mut area = ground.area(&ground.fresh());
-    for (number, table) in ground.schema.tables.iter().enumerate() {
-        for place in 0..table.rows {
-            let row = herded_row(r, ground, number, place);
-            area.put_row(number, place, Some(&row));
-        }
-    }
-    area.words
-}
-
-/// A row of this number: its key is the number, and its other columns are keys of parents.
-fn herded_row(r: &mut Random, ground: &Ground, table: usize, number: usize) -> Row {
-    let tables = &ground.schema.tables;
-    let mut row: Row = vec![Some(number as i64); tables[table].columns];
-    for key in ground.schema.keys.iter().filter(|key| key.child == table) {
-        let last = tables[key.parent].rows - 1;
-        let parent = if r.once_in(6) { last } else { 0 };
-        row[key.child_columns[0]] = (!r.once_in(15)).then_some(parent as i64);
-    }
-    row
 }
 
 /// The schema of the largest sum: two keys of each of 16 tables clear all of its eight columns.

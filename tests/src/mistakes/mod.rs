@@ -2,8 +2,10 @@
 //! that are worth nothing. The tests must tell each from the paper's.
 
 mod actions;
+mod bound_answers;
 mod broken_keys;
 mod broken_readings;
+mod delete_bound;
 mod folded;
 mod left_days;
 mod match_full;
@@ -37,6 +39,9 @@ pub fn all() -> Vec<Named> {
         refusals::ALL,
         transactions::ALL,
         orphan_list::ALL,
+        delete_bound::ROWS,
+        delete_bound::COLUMNS,
+        delete_bound::KEYS,
         searches::ALL,
         broken_keys::NUMBERS,
         broken_keys::ORDER,
@@ -61,7 +66,9 @@ pub fn all() -> Vec<Named> {
     });
     let readings = [match_full::READINGS, folded::READINGS, windows::READINGS];
     let readings = readings.into_iter().flatten().map(other_bytes::engine);
+    let bounds = bound_answers::ALL.iter().map(worthless::with_bounds);
     let others = [worthless::all(), broken_readings::by_statement()];
     let others = others.into_iter().flatten();
-    misread.chain(readings).chain(others).collect()
+    let engines = misread.chain(readings).chain(bounds);
+    engines.chain(others).collect()
 }

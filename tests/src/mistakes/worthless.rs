@@ -8,7 +8,10 @@ use crate::model::Model;
 type AnswerCall = fn(&Model, &[u8], &mut [i64], &[i64]) -> Answer;
 
 /// The answer to the question how much one delete can touch, given the model.
-pub type TellBound = fn(&Model, &[u8], &mut [i64]) -> Numbered;
+type TellBound = fn(&Model, &[u8], &mut [i64]) -> Numbered;
+
+/// A name, and that answer.
+pub type OtherBound = (&'static str, TellBound);
 
 /// The model, but for its calls or its delete bounds.
 struct Worthless {
@@ -37,7 +40,7 @@ pub fn with_calls(name: &'static str, call: AnswerCall) -> Named {
 }
 
 /// The model with other delete bounds.
-pub fn with_bounds(name: &'static str, bound: TellBound) -> Named {
+pub fn with_bounds(&(name, bound): &OtherBound) -> Named {
     with_answers(name, Model::call, bound)
 }
 

@@ -5,8 +5,10 @@ use crate::engine::Engine;
 use crate::mistakes;
 use crate::random::Random;
 use crate::report::Report;
+use crate::trials::bounded_deletes::BoundedDeletes;
 use crate::trials::broken_keys;
 use crate::trials::child_rows::ChildRows;
+use crate::trials::delete_bounds::DeleteBounds;
 use crate::trials::every_day::EveryDay;
 use crate::trials::every_parent::EveryParent;
 use crate::trials::folded;
@@ -27,6 +29,10 @@ type Part = (&'static str, fn(&dyn Engine, &mut Random) -> bool);
 /// From the quickest on.
 const PARTS: &[Part] = &[
     ("edge cases", |engine, _| edges::compare(engine).is_err()),
+    ("deletes within their bounds", |engine, r| {
+        let mut deletes = BoundedDeletes::new();
+        (0..60).any(|_| deletes.trial(engine, r).is_err())
+    }),
     ("every day", |engine, _| {
         let mut every = EveryDay::new();
         let outcomes = [
@@ -51,6 +57,10 @@ const PARTS: &[Part] = &[
     ("orphan lists", |engine, r| {
         let mut lists = OrphanLists::new();
         (0..10).any(|_| lists.trial(engine, r).is_err())
+    }),
+    ("delete bounds", |engine, r| {
+        let mut bounds = DeleteBounds::new();
+        (0..80).any(|_| bounds.trial(engine, r).is_err()) || bounds.largest(engine).is_err()
     }),
     ("every parent", |engine, _| {
         let mut every = EveryParent::new();

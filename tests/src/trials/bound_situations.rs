@@ -1,7 +1,7 @@
 //! What there is to see where a delete bound is told of an area, by name, so that it can be counted.
 
-use super::origins::Origin::{self, Damaged, Filled, Reached};
-use super::origins::ANY;
+use super::origins::Origin::{self, Damaged, Reached};
+use super::origins::{ANY, NOT_REACHED};
 use crate::model::area::Area;
 use crate::model::bound::{self, cleared, clears, filled, is_bounded};
 use crate::model::keys::half_filled;
@@ -9,9 +9,6 @@ use crate::model::schema::{Action, Key, Row};
 
 /// A name, the areas on which it is to be seen, and whether an area shows it.
 pub type Situation = (&'static str, &'static [Origin], fn(&Area) -> bool);
-
-/// Areas that are not reached by calls.
-const NOT_REACHED: &[Origin] = &[Filled, Damaged];
 
 pub const SITUATIONS: &[Situation] = &[
     ("no live row", &[Reached], |area| bound(area) == 0),

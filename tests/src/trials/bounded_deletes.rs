@@ -6,20 +6,21 @@ use super::compared;
 use super::delete_situations as situations;
 use super::origins::Origin;
 use super::seen::Seen;
-use super::watched::Made;
+use super::watched::{Made, Start};
 use crate::counts::Counts;
-use crate::differences::{hex, words};
+use crate::differences::of_delete;
 use crate::engine::{Answer, Engine};
 use crate::inputs::grounds::{self, Ground};
-use crate::inputs::{areas, bounded, damages, delete_calls, mixed_calls, populated, windows};
+use crate::inputs::{
+    areas, bounded, damages, delete_calls, far_deletes, mixed_calls, populated, windows,
+};
 use crate::model::bound::{self, is_bounded};
-use crate::model::form;
 use crate::model::Model;
 use crate::random::Random;
 
 type Outcome = Result<(), String>;
 
-/// How many deletes are made on one schema, each also on copies of the area.
+/// How many deletes are made on one schema.
 const TURNS: usize = 4;
 
 pub struct BoundedDeletes {
@@ -40,7 +41,7 @@ pub struct BoundedDeletes {
     pub exceeding: Counts<&'static str>,
 }
 
-/// A delete, its area, and where that comes from.
+/// An area, a delete on it, and where the area comes from.
 type Delete<'a> = (&'a [i64], &'a [i64], Origin);
 
 impl BoundedDeletes {
@@ -62,11 +63,15 @@ impl BoundedDeletes {
         self.with_room.sum() + self.with_less.sum()
     }
 
-    /// A few deletes on one schema. Before some of them another call is made.
+    /// A few deletes on one schema, and before each the same on a damaged copy of the area. Before some
+    /// of them another call is made.
     pub fn trial(&mut self, engine: &dyn Engine, r: &mut Random) -> Outcome {
         let start = start(r);
         let (ground, mut area) = (&start.ground, start.area);
-        assert!(is_bounded(&ground.schema), "the claim is about others");
+        assert!(
+            is_bounded(&ground.schema),
+            "the claim is about such schemas"
+        );
         for _ in 0..TURNS {
             if r.once_in(3) {
                 let call = mixed_calls::any(r, ground, &area);
@@ -109,11 +114,8 @@ impl BoundedDeletes {
         let (answer, after) = compared::call(engine, &self.model, (&ground.bytes, area, call))?;
         let free = (ground.schema.room - ground.area(area).used()) as i64;
         if bound.code != 0 || !claim_holds(answer, bound.number, free) {
-            let input = (hex(&ground.bytes), words(area), call);
-            return Err(format!(
-                "bound {}, {} records free, answer {}: {:?}",
-                bound, free, answer, input
-            ));
+            let input = (&ground.bytes[..], area, call);
+            return Err(of_delete(input, (bound, free), answer));
         }
         self.count(answer, bound.number, free);
         self.look(ground, (area, call, origin), (answer, &after));
@@ -144,12 +146,7 @@ impl BoundedDeletes {
         (answer, after): (Answer, &[i64]),
     ) {
         let rules = &self.model.rules;
-        let made = Made {
-            call: form::read(rules, &ground.schema, call).expect("the call is well-formed"),
-            code: answer.code,
-            before: ground.area(area),
-            after: ground.area(after),
-        };
+        let made = Made::new(rules, ground, (area, call), (answer.code, after));
         let shown = situations::shown(&Seen::new(rules, &made));
         let met = &mut self.met[origin as usize];
         shown.into_iter().for_each(|situation| met.add(situation));
@@ -181,8 +178,8 @@ type Make = fn(&mut Random) -> (Ground, Vec<i64>);
 
 /// Schemas whose deletes are not bounded, by what they have.
 pub const OTHERS: &[(&str, Make)] = &[
-    ("SET DEFAULT", bounded::herded_by_default),
-    ("a parent key cleared", bounded::herded_by_key),
+    ("SET DEFAULT", far_deletes::by_default),
+    ("a parent key cleared", far_deletes::by_parent_key),
 ];
 
 /// An accepted delete changes at most so many rows; with so many records free none is refused by 15.
@@ -190,55 +187,27 @@ fn claim_holds(answer: Answer, bound: i64, free: i64) -> bool {
     answer.changed <= bound && (answer.code != 15 || free < bound)
 }
 
-/// A schema, an area of it, where that comes from, and how a delete is made.
-struct Start {
-    ground: Ground,
-    area: Vec<i64>,
-    origin: Origin,
-    call: fn(&mut Random, &Ground, &[i64]) -> Vec<i64>,
-}
-
-impl Start {
-    fn reached(ground: Ground, area: Vec<i64>) -> Start {
-        Start {
-            ground,
-            area,
-            origin: Origin::Reached,
-            call: delete_calls::any,
-        }
-    }
-}
-
 fn start(r: &mut Random) -> Start {
     match r.between(0, 19) {
-        0 => chained(r),
+        0 => {
+            let ground = grounds::chain(r);
+            let ground = bounded::bounded(r, ground);
+            let area = areas::chained(r, &ground);
+            Start::reached(ground, area, delete_calls::on_chain)
+        }
         1..=5 => {
-            let (ground, area) = bounded::herded(r);
-            Start::reached(ground, area)
+            let (ground, area) = far_deletes::by_null(r);
+            Start::reached(ground, area, delete_calls::any)
         }
         6..=10 => {
             let ground = bounded::ground(r);
             let area = populated::filled(r, &ground, &windows::row);
-            Start {
-                origin: Origin::Filled,
-                ..Start::reached(ground, area)
-            }
+            Start::filled(ground, area, delete_calls::any)
         }
         _ => {
             let ground = bounded::ground(r);
             let area = populated::reached_with_level(r, &ground, 3, &windows::row);
-            Start::reached(ground, area)
+            Start::reached(ground, area, delete_calls::any)
         }
-    }
-}
-
-/// Rows of one table that refer to each other in a chain.
-fn chained(r: &mut Random) -> Start {
-    let ground = grounds::chain(r);
-    let ground = bounded::bounded(r, ground);
-    let area = areas::chained(r, &ground);
-    Start {
-        call: delete_calls::on_chain,
-        ..Start::reached(ground, area)
     }
 }

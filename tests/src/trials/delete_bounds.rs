@@ -4,6 +4,7 @@
 use super::bound_situations::SITUATIONS;
 use super::origins::Origin;
 use super::told_bound::ToldBounds;
+use super::watched::MakeCall;
 use crate::counts::Counts;
 use crate::engine::Engine;
 use crate::inputs::grounds::{self, Ground};
@@ -31,20 +32,19 @@ impl DeleteBounds {
 
     /// Bounds on one schema.
     pub fn trial(&mut self, engine: &dyn Engine, r: &mut Random) -> Outcome {
-        let start = start(r);
-        let ground = &start.ground;
+        let (ground, turns, make_call) = start(r);
         let mut area = ground.fresh();
-        for _ in 0..r.between(1, start.turns) {
-            let call = (start.call)(r, ground, &area);
+        for _ in 0..r.between(1, turns) {
+            let call = make_call(r, &ground, &area);
             engine.call(&ground.bytes, &mut area, &call);
             if r.once_in(8) {
-                self.ask(engine, ground, &area, Origin::Reached)?;
+                self.ask(engine, &ground, &area, Origin::Reached)?;
             }
         }
-        let filled = areas::filled(r, ground);
-        self.ask(engine, ground, &filled, Origin::Filled)?;
+        let filled = areas::filled(r, &ground);
+        self.ask(engine, &ground, &filled, Origin::Filled)?;
         let either = if r.once_in(2) { area } else { filled };
-        self.on_altered(engine, r, ground, &either)
+        self.on_altered(engine, r, &ground, &either)
     }
 
     /// The largest sum there can be: 16 tables of 1,024 rows, and SET NULL in all of eight columns.
@@ -106,29 +106,12 @@ impl DeleteBounds {
     }
 }
 
-/// A schema, how many calls are made from a fresh area, and how a call is made.
-struct Start {
-    ground: Ground,
-    turns: usize,
-    call: fn(&mut Random, &Ground, &[i64]) -> Vec<i64>,
-}
-
-fn start(r: &mut Random) -> Start {
-    let (ground, turns) = match r.between(0, 19) {
-        0 => (grounds::large(r), 4),
-        1..=3 => {
-            return Start {
-                ground: orphan_grounds::many_keys(r),
-                turns: 50,
-                call: calls::leading_to_orphans,
-            }
-        }
-        4..=11 => (bounded::ground(r), 50),
-        _ => (grounds::collisions(r), 50),
-    };
-    Start {
-        ground,
-        turns,
-        call: mixed_calls::any,
+/// A schema, at most how many calls are made from a fresh area, and how a call is made.
+fn start(r: &mut Random) -> (Ground, usize, MakeCall) {
+    match r.between(0, 19) {
+        0 => (grounds::large(r), 4, mixed_calls::any),
+        1..=3 => (orphan_grounds::many_keys(r), 50, calls::leading_to_orphans),
+        4..=11 => (bounded::ground(r), 50, mixed_calls::any),
+        _ => (grounds::collisions(r), 50, mixed_calls::any),
     }
 }

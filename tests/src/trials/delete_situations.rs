@@ -1,14 +1,13 @@
 //! What there is to see in a delete beside its bound, by name, so that it can be counted.
 
-use super::origins::Origin::{self, Damaged, Filled, Reached};
-use super::origins::ANY;
+use super::origins::Origin::{self, Damaged, Reached};
+use super::origins::{ANY, NOT_REACHED};
 use super::seen::{Seen, Situation};
 use super::trace::Step;
 use crate::model::bound::{self, cleared, clears};
 use crate::model::schema::{Action, Row};
 
-/// Areas that are not reached by calls, and those in which deletes go far.
-const NOT_REACHED: &[Origin] = &[Filled, Damaged];
+/// Areas in which deletes go far.
 const FAR: &[Origin] = &[Reached, Damaged];
 
 /// Deletes that change as many rows as their bound allows, and more than one.

@@ -69,6 +69,9 @@ impl Operations {
             self.call(engine, (&schema, area, &call), Origin::Damaged)?;
             self.fresh(engine, &schema, area)?;
             self.ask(engine, r, (&schema, area))?;
+            for area in [&damaged[..], &[]] {
+                self.bounds.compare(engine, &schema, area)?;
+            }
         }
         if r.once_in(10) {
             self.fresh(engine, &g.bytes, &damaged)?;

@@ -11,6 +11,9 @@ pub enum Origin {
 /// Every origin.
 pub const ANY: &[Origin] = &[Origin::Reached, Origin::Filled, Origin::Damaged];
 
+/// The origins of areas that calls do not lead to.
+pub const NOT_REACHED: &[Origin] = &[Origin::Filled, Origin::Damaged];
+
 /// The origins with their names.
 pub const ORIGINS: &[(&str, Origin)] = &[
     ("reached areas", Origin::Reached),

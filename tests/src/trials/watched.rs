@@ -32,14 +32,14 @@ pub struct Sort {
 pub type OfList = (&'static str, &'static [Origin], fn(&Area) -> bool);
 
 /// Makes a well-formed call that suits an area.
-type MakeCall = fn(&mut Random, &Ground, &[i64]) -> Vec<i64>;
+pub type MakeCall = fn(&mut Random, &Ground, &[i64]) -> Vec<i64>;
 
 /// A schema, an area of it, where that comes from, and how a call is made.
 pub struct Start {
-    ground: Ground,
-    area: Vec<i64>,
-    origin: Origin,
-    call: MakeCall,
+    pub ground: Ground,
+    pub area: Vec<i64>,
+    pub origin: Origin,
+    pub call: MakeCall,
 }
 
 impl Start {
@@ -66,6 +66,23 @@ pub struct Made<'a> {
     pub code: i64,
     pub before: Area<'a>,
     pub after: Area<'a>,
+}
+
+impl<'a> Made<'a> {
+    /// A well-formed call on an area, its code, and the words after it.
+    pub fn new(
+        rules: &Rules,
+        ground: &'a Ground,
+        (area, call): (&[i64], &[i64]),
+        (code, after): (i64, &[i64]),
+    ) -> Made<'a> {
+        Made {
+            call: form::read(rules, &ground.schema, call).expect("the call is well-formed"),
+            code,
+            before: ground.area(area),
+            after: ground.area(after),
+        }
+    }
 }
 
 pub struct Watched {
@@ -120,12 +137,7 @@ impl Watched {
         let (answer, after) = compared::call(engine, &self.model, input)?;
         self.codes.add(answer.code);
         let rules = &self.model.rules;
-        let made = Made {
-            call: form::read(rules, &ground.schema, call).expect("the call is well-formed"),
-            code: answer.code,
-            before: ground.area(area),
-            after: ground.area(&after),
-        };
+        let made = Made::new(rules, ground, (area, call), (answer.code, &after));
         let shown = (self.sort.shown)(rules, &made);
         self.count(origin, shown);
         Ok(after)
