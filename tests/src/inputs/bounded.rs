@@ -51,7 +51,11 @@ fn yards(r: &mut Random) -> Ground {
     let tables: Vec<Table> = (0..count).map(|_| table(r, &values)).collect();
     let count = r.pick(&[1, 2, 3, 4, 5, 6, 8, 12]);
     let keys = (0..count).map(|_| key(r, &tables)).collect();
-    let room = r.pick(&[4, 20, 60, 60, 200]);
+    let room = if r.once_in(40) {
+        4096
+    } else {
+        r.pick(&[4, 20, 60, 60, 200])
+    };
     let ground = Ground::new(Records::new(room, tables, keys), values);
     let ground = ground.half_drawn_once_in(r, 8);
     ground.folded_once_in(r, 4)

@@ -25,7 +25,7 @@ const LEAST_OTHERS: usize = 5_000;
 const LEAST_EXCEEDING: usize = 20;
 
 /// How often each situation is to be met.
-const LEAST_OF_A_SITUATION: usize = 10;
+const LEAST_OF_A_SITUATION: usize = 5;
 
 /// The codes of deletes where as many records are free as the bound says, and where fewer are.
 const CODES_WITH_ROOM: &[i64] = &[0, 11, 14, 16, 17, 18, 19, 20, 23];
