@@ -115,9 +115,14 @@ module _ (turns : Turns) where
   listedAfter bs cs before = listOrphans bs (ran bs cs .1) before
 
   -- how much one delete can touch on the last area
-  unfoldable pub boundAfter : List ℕ → List (List ℤ) → Numbered
+  unfoldable pub boundAfter : List ℕ → List (List ℤ) → ℕ
+  unfolding ran boundIn areaBound view tablesOf rowPart rowsSize tableSize chunks
+  boundAfter bs cs = areaBound (schemaOf bs) (ran bs cs .1)
+
+  -- the same as an answer
+  unfoldable pub boundAnswered : List ℕ → List (List ℤ) → Numbered
   unfolding ran boundOn
-  boundAfter bs cs = boundOn bs (ran bs cs .1)
+  boundAnswered bs cs = boundOn bs (ran bs cs .1)
 
   -- and the journal records that are free then
   unfoldable pub freeAfter : List ℕ → List (List ℤ) → ℕ

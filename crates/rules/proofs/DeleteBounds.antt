@@ -8,7 +8,7 @@ use lib.IntN.{ℤ, pos}
 use lib.ListN.{set, replicate}
 use Rattle.rules.specs.declared.Numbered.{Numbered}
 use Rattle.rules.proofs.Inputs.{schemaS, twoKeys, threeKeys, clearedParent, clearedEnd, brokenSetNull, calibrations, insert, delete, deleteWhere, begin}
-use Rattle.rules.proofs.Computed.{Turns, onBook, boundIn, boundOn, boundedBytes, answersThen, boundAfter, freeAfter}
+use Rattle.rules.proofs.Computed.{Turns, onBook, boundIn, boundOn, boundedBytes, answersThen, boundAfter, boundAnswered, freeAfter}
 use Rattle.rules.proofs.PaperCases.{changed, refused}
 
 -- schema bytes, calls from a fresh area, the sum and the free journal records then, and a delete sent next with its answer; whether the claim is about such schemas
@@ -115,9 +115,12 @@ boundCases =
     }
     ∷ []
 
--- the sums
+-- the sums; as answers they are computed in `worked_calls`
 abbrev pub SumsHold : Turns → Type 0
-SumsHold turns = map (λ (c : BoundCase). boundAfter turns (c .schema) (c .sent)) boundCases ≡ map (λ (c : BoundCase). number (c .sum)) boundCases
+SumsHold turns = map (λ (c : BoundCase). boundAfter turns (c .schema) (c .sent)) boundCases ≡ map (λ (c : BoundCase). c .sum) boundCases
+
+abbrev pub SumsAnswered : Turns → Type 0
+SumsAnswered turns = map (λ (c : BoundCase). boundAnswered turns (c .schema) (c .sent)) boundCases ≡ map (λ (c : BoundCase). number (c .sum)) boundCases
 
 pub sums-hold : SumsHold onBook
 unfolding onBook boundAfter boundCases

@@ -2,7 +2,7 @@
 -- Assumes nothing.
 use mathlib.Core.Path.{refl}
 use Rattle.rules.proofs.Inputs.{begin, calibrations, commit, crossedKeys, delete, deleteWhere, eitherMatch, halfDrawn, insert, schemaS, update}
-use Rattle.rules.proofs.Computed.{onArea, answers, answersThen, answersAfter, answersWith, boundAfter, callsLeft, freeAfter, listedAfter, sameArea}
+use Rattle.rules.proofs.Computed.{onArea, answers, answersThen, answersAfter, answersWith, boundAfter, boundAnswered, callsLeft, freeAfter, listedAfter, sameArea}
 use Rattle.rules.proofs.PaperCases.{Hold, paperCases}
 use Rattle.rules.proofs.Examples.{examples, UndoneStruck, undoneExamples, UndoneSame, ListedHolds, orphaned, ListedFull, ListedRefused}
 use Rattle.rules.proofs.ManyRows.{manyRows, NoneFoundJudged}
@@ -11,7 +11,7 @@ use Rattle.rules.proofs.MatchFull.{matchFull, ListedByMatch, unserved}
 use Rattle.rules.proofs.BrokenKeys.{brokenKeys, ChildDeleted, KeptJudged}
 use Rattle.rules.proofs.FoldedColumns.{foldedColumns}
 use Rattle.rules.proofs.Windows.{windowed, TwoParents}
-use Rattle.rules.proofs.DeleteBounds.{boundCases, SumsHold, FreeHold, DeletesHold}
+use Rattle.rules.proofs.DeleteBounds.{boundCases, SumsHold, SumsAnswered, FreeHold, DeletesHold}
 
 pub paper-cases : Hold onArea paperCases
 unfolding onArea answers paperCases
@@ -88,6 +88,10 @@ two-parents = refl
 pub sums-hold : SumsHold onArea
 unfolding onArea boundAfter boundCases
 sums-hold = refl
+
+pub sums-answered : SumsAnswered onArea
+unfolding onArea boundAnswered boundCases
+sums-answered = refl
 
 pub free-hold : FreeHold onArea
 unfolding onArea freeAfter boundCases
