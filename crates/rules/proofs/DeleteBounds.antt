@@ -7,7 +7,7 @@ use Prim.Native.Nat.{ℕ}
 use lib.IntN.{ℤ, pos}
 use lib.ListN.{set, replicate}
 use Rattle.rules.specs.declared.Numbered.{Numbered}
-use Rattle.rules.proofs.Inputs.{schemaS, twoKeys, threeKeys, clearedParent, clearedEnd, brokenSetNull, calibrations, insert, delete, deleteWhere, begin}
+use Rattle.rules.proofs.Inputs.{schemaS, twoKeys, threeKeys, clearedParent, clearedEnd, clearedPair, pairKey, brokenSetNull, calibrations, insert, delete, deleteWhere, begin}
 use Rattle.rules.proofs.Computed.{Turns, onBook, boundIn, boundOn, boundedBytes, answersThen, boundAfter, boundAnswered, freeAfter}
 use Rattle.rules.proofs.PaperCases.{changed, refused}
 
@@ -34,7 +34,7 @@ unfolding insert
 threefold = insert 0 0 0 (pos 7 ∷ []) ∷ insert 1 0 0 (pos 7 ∷ pos 7 ∷ pos 7 ∷ []) ∷ []
 
 unfoldable pub boundCases : List BoundCase
-unfolding schemaS twoKeys threeKeys clearedParent clearedEnd calibrations threefold insert delete deleteWhere begin
+unfolding schemaS twoKeys threeKeys clearedParent clearedEnd clearedPair calibrations threefold insert delete deleteWhere begin
 boundCases =
     -- a fresh area: vacant rows do not count
     record { schema = schemaS; sent = []; sum = 0; free = 8; next = delete 0 0; answered = refused 11; claimed = true }
@@ -103,6 +103,9 @@ boundCases =
       answered = changed 5;
       claimed = false;
     }
+    -- nor where it is the second column of its key. Where no unique key is drawn there, the key that refers to it is broken and has no parent key
+    ∷ record { schema = clearedPair 2; sent = []; sum = 0; free = 8; next = delete 0 0; answered = refused 11; claimed = false }
+    ∷ record { schema = clearedPair 0; sent = []; sum = 0; free = 8; next = delete 0 0; answered = refused 11; claimed = true }
     -- nor about one in a window, though a window's key changes no row
     ∷ record {
       schema = clearedEnd;
@@ -147,9 +150,9 @@ pub claimed-hold : map (λ (c : BoundCase). boundedBytes (c .schema)) boundCases
 unfolding boundedBytes boundCases
 claimed-hold = refl
 
--- refused by 1, 3 and 10
+-- refused by 1, 3 and 10, "with the code and 0", though a row is live (word 333 is its state)
 pub bound-refused :
-    boundOn [] [] ∷ boundOn schemaS (replicate 432 (pos 0)) ∷ boundOn schemaS (set (replicate 433 (pos 0)) 3 (pos 1)) ∷ []
+    boundOn [] [] ∷ boundOn schemaS (replicate 432 (pos 0)) ∷ boundOn schemaS (set (set (replicate 433 (pos 0)) 333 (pos 256)) 3 (pos 1)) ∷ []
     ≡ refusedBy 1 ∷ refusedBy 3 ∷ refusedBy 10 ∷ []
 unfolding boundOn schemaS
 bound-refused = refl
@@ -161,9 +164,11 @@ pub vacant-rows : boundIn (twoKeys 2 2) ([] ∷ ((pos 0 ∷ pos 0 ∷ []) ∷ (p
 unfolding boundIn twoKeys
 vacant-rows = refl
 
--- a column of two keys counts once
-pub shared-column : boundIn (twoKeys 2 2) ([] ∷ ((pos 256 ∷ pos 7 ∷ []) ∷ []) ∷ []) ≡ 2
-unfolding boundIn twoKeys
+-- a column of two keys counts once, both columns of one key
+pub shared-column :
+    boundIn (twoKeys 2 2) ([] ∷ ((pos 256 ∷ pos 7 ∷ []) ∷ []) ∷ []) ∷ boundIn (pairKey 0 2 0) ([] ∷ ((pos 256 ∷ pos 7 ∷ pos 8 ∷ []) ∷ []) ∷ []) ∷ []
+    ≡ 2 ∷ 3 ∷ []
+unfolding boundIn twoKeys pairKey
 shared-column = refl
 
 -- that of a broken key counts too, unless it is NULL

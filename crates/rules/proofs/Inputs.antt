@@ -97,6 +97,11 @@ unfoldable pub pairKey : ℕ → ℕ → ℕ → List ℕ
 unfolding schemaBytes tableBytes nullDefaults pairBytes
 pairKey deferred action match = schemaBytes 2 1 8 (tableBytes 2 2 0 3 ++ nullDefaults 4 2 0 0 2 ++ pairBytes deferred action match)
 
+-- one such key, SET NULL, and a table that refers to the second child column, which has this unique mask
+unfoldable pub clearedPair : ℕ → List ℕ
+unfolding schemaBytes tableBytes pairBytes keyBytes
+clearedPair unique = schemaBytes 3 2 8 (tableBytes 2 2 0 3 ++ tableBytes 2 2 0 unique ++ tableBytes 2 1 0 0 ++ pairBytes 0 2 0 ++ keyBytes 2 0 1 1 0 0 0)
+
 -- two such deferred keys over the same columns, of either match
 unfoldable pub eitherMatch : List ℕ
 unfolding schemaBytes tableBytes pairBytes
