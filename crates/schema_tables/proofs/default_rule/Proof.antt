@@ -1,3 +1,9 @@
+use mathlib.Core.Path.{_≡_, ap, ap₂, _∙_}
+use mathlib.Core.Bool.{Bool, not, _&&_, _||_}
+use Prim.Native.Nat.{ℕ, _+_, _*_}
+use lib.Dec.{ltb, eqb}
+use Rattle.schema.specs.Bytes.{bit, word}
+use Rattle.schema.specs.Fields.{tableStart, columnsOf, defaultNullOf}
 use borrow.Author.Needs.{needs}
 use Rattle.schema_tables.proofs.default_rule.Statement.{statement}
 use Rattle.schema_tables.proofs.default_rule.Tie as tie
@@ -53,7 +59,14 @@ is-bit-requires c κs = search needs
 
 -- src/lib.rt:204:1
 returns : tie.Need-returns
-returns c = cc
+returns c =
+    let s = c .before .before .before .before .before .args .s .now in
+    let t = c .before .before .before .before .before .args .t in
+    let i = c .before .before .before .before .before .args .c in
+    let columns : c .before .before .before .byte-at .result ≡ columnsOf s t = c .before .before .before .byte-at .ensures .0 in
+    let nulls : c .before .before .byte-at2 .result ≡ defaultNullOf s t = c .before .before .byte-at2 .ensures .0 in
+    let value : c .before .word-at .result ≡ word s (tableStart t + 16 + 8 * i) = c .before .word-at .ensures in
+    ap₂ _||_ (ap (λ w. eqb w 0) value) (ap₂ (λ (n : ℕ) (b : Bool). ltb i n && not b) columns (c .is-bit .ensures ∙ ap (bit i) nulls))
 
 pub default-rule-spec : {M : Type 1} → statement M
 default-rule-spec =

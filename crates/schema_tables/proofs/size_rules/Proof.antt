@@ -1,5 +1,8 @@
 use Rattle.schema.specs.Ranges.{every, andAll}
-use Rattle.schema.specs.Check.{sizeRules}
+use Rattle.schema.specs.Check.{within, sizeRules}
+use Rattle.schema.specs.Fields.{rowsOf, columnsOf}
+use mathlib.Core.Path.{_≡_, ap, ap₂, _∙_}
+use mathlib.Core.Bool.{_&&_}
 use borrow.Author.Needs.{needs}
 use Rattle.schema_tables.proofs.size_rules.Statement.{statement}
 use Rattle.schema_tables.proofs.size_rules.Tie as tie
@@ -40,7 +43,12 @@ is-within-requires-2 c κs = search needs
 -- src/lib.rt:228:1
 returns : tie.Need-returns
 unfolding sizeRules every andAll
-returns c = cc
+returns c =
+    let s = c .before .before .before .before .before .args .s .now in
+    let t = c .before .before .before .before .before .args .t in
+    let rows : c .before .before .before .half-at .result ≡ rowsOf s t = c .before .before .before .half-at .ensures .0 in
+    let columns : c .before .byte-at .result ≡ columnsOf s t = c .before .byte-at .ensures .0 in
+    ap₂ _&&_ (c .before .before .is-within .ensures ∙ ap (within 1 1024) rows) (c .is-within2 .ensures ∙ ap (within 1 8) columns)
 
 pub size-rules-spec : {M : Type 1} → statement M
 size-rules-spec =

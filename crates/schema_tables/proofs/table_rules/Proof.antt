@@ -1,7 +1,8 @@
-use Rattle.schema.specs.Ranges.{every, andAll}
+use Rattle.schema.specs.Ranges.{allFrom, every, andAll}
 use Rattle.schema.specs.Check
-use mathlib.Core.Path.{sym, _∙_}
-use Prim.Native.Nat.{_≤_}
+use mathlib.Core.Path.{_≡_, sym, ap, ap₂, _∙_}
+use mathlib.Core.Bool.{Bool, _&&_}
+use Prim.Native.Nat.{ℕ, _+_, _≤_}
 use borrow.Author.Tests.{not-true, not-false}
 use Rattle.schema.specs.Fields
 use Rattle.schema.proofs.CheckLaws.{table-no, table-rest}
@@ -81,9 +82,15 @@ default-rules-requires c κs = search needs
 returns-2 : tie.Need-returns-2
 unfolding Check.tableRest every andAll
 returns-2 c =
-    let size-rules = c .before .before .before .before .before .before .before .before .size-rules in
-    let if1 = c .before .before .before .before .before .before .before .if1 in
-    cc (table-rest (c .before .before .before .before .before .before .before .before .before .before .args .s .now) (c .before .before .before .before .before .before .before .before .before .before .args .t) (sym (size-rules .ensures) ∙ not-false _ (if1 .left)))
+    let s = c .before .before .before .before .before .before .before .before .before .before .args .s .now in
+    let t = c .before .before .before .before .before .before .before .before .before .before .args .t in
+    let columns : c .before .before .before .before .before .before .byte-at .result ≡ Fields.columnsOf s t = c .before .before .before .before .before .before .byte-at .ensures .0 in
+    let clean : ℕ → Bool = λ n. allFrom (Check.maskRule s (Fields.tableStart t + 3) n) 7 0 in
+    let masks : c .before .before .before .before .before .mask-rules .result ≡ clean (Fields.columnsOf s t) = _∙_ {b = clean (c .before .before .before .before .before .before .byte-at .result)} (c .before .before .before .before .before .mask-rules .ensures) (ap clean columns) in
+    let zeros : c .before .all-bytes .result ≡ allFrom (Check.isByte s (Fields.tableStart t + 10) 0) 6 0 = c .before .all-bytes .ensures in
+    let uniques = ap₂ _&&_ (ap₂ _&&_ (ap₂ _&&_ masks (c .before .before .before .before .unique-rule .ensures)) (c .before .before .before .unique-rule2 .ensures)) (c .before .before .unique-rule3 .ensures) in
+    ap₂ _&&_ (ap₂ _&&_ uniques zeros) (c .default-rules .ensures)
+    ∙ sym (table-rest s t (sym (c .before .before .before .before .before .before .before .before .size-rules .ensures) ∙ not-false _ (c .before .before .before .before .before .before .before .if1 .left)))
 
 pub table-rules-spec : {M : Type 1} → statement M
 table-rules-spec =
