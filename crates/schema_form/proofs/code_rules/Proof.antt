@@ -1,5 +1,11 @@
 use Rattle.schema.specs.Ranges.{every, andAll}
-use Rattle.schema.specs.Check.{codeRules}
+use Rattle.schema.specs.Check.{within, actionRule, codeRules}
+use Rattle.schema.specs.Bytes.{byte}
+use Rattle.schema.specs.Fields
+use mathlib.Core.Path.{_≡_, ap, ap₂, _∙_}
+use mathlib.Core.Bool.{_&&_}
+use Prim.Native.Nat.{ℕ, _+_}
+use lib.Dec.{leb, ltb}
 use borrow.Author.Needs.{needs}
 use Rattle.schema_form.proofs.code_rules.Statement.{statement}
 use Rattle.schema_form.proofs.code_rules.Tie as tie
@@ -63,7 +69,21 @@ windowed-rule-requires c κs = search needs
 
 returns : tie.Need-returns
 unfolding codeRules every andAll
-returns c = cc
+returns c =
+    let s = c .before .before .before .before .before .before .before .before .before .before .before .before .before .before .args .s .now in
+    let k = c .before .before .before .before .before .before .before .before .before .before .before .before .before .before .args .k in
+    let start = c .before .before .before .before .before .before .before .before .before .before .before .before .key-start .ensures in
+    let tables : c .before .before .before .before .before .before .before .before .before .before .before .half-at .result ≡ Fields.tableCount s = c .before .before .before .before .before .before .before .before .before .before .before .half-at .ensures .0 in
+    let child : c .before .before .before .before .before .before .before .before .before .before .byte-at .result ≡ Fields.childOf s k = c .before .before .before .before .before .before .before .before .before .before .byte-at .ensures .0 ∙ ap (byte s) start in
+    let deferred : c .before .before .before .before .before .before .before .before .before .byte-at2 .result ≡ Fields.deferredOf s k = c .before .before .before .before .before .before .before .before .before .byte-at2 .ensures .0 ∙ ap (λ (at : ℕ). byte s (at + 2)) start in
+    let onDelete : c .before .before .before .before .before .before .before .action-rule .result ≡ actionRule (Fields.onDeleteOf s k) = c .before .before .before .before .before .before .before .action-rule .ensures ∙ ap (λ (at : ℕ). actionRule (byte s (at + 3))) start in
+    let onUpdate : c .before .before .before .before .before .action-rule2 .result ≡ actionRule (Fields.onUpdateOf s k) = c .before .before .before .before .before .action-rule2 .ensures ∙ ap (λ (at : ℕ). actionRule (byte s (at + 4))) start in
+    let width : c .before .before .before .before .byte-at3 .result ≡ Fields.widthOf s k = c .before .before .before .before .byte-at3 .ensures .0 ∙ ap (λ (at : ℕ). byte s (at + 5)) start in
+    let full : c .before .before .byte-at4 .result ≡ Fields.matchOf s k = c .before .before .byte-at4 .ensures .0 ∙ ap (λ (at : ℕ). byte s (at + 14)) start in
+    let windowed : c .before .byte-at5 .result ≡ Fields.windowedOf s k = c .before .byte-at5 .ensures .0 ∙ ap (λ (at : ℕ). byte s (at + 15)) start in
+    let actions = ap₂ _&&_ (ap₂ _&&_ (ap₂ _&&_ (ap₂ ltb child tables) (ap (λ n. leb n 1) deferred)) onDelete) onUpdate in
+    let widths = ap₂ _&&_ actions (c .before .before .before .is-within .ensures ∙ ap (within 1 4) width) in
+    ap₂ _&&_ (ap₂ _&&_ (ap₂ _&&_ widths (ap (λ n. leb n 1) full)) (ap (λ n. leb n 1) windowed)) (c .windowed-rule .ensures)
 
 pub code-rules-spec : {M : Type 1} → statement M
 code-rules-spec =

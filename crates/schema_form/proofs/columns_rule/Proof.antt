@@ -1,4 +1,6 @@
 use Rattle.schema.specs.Check.{columnsRule}
+use mathlib.Core.Path.{ap₂}
+use mathlib.Core.Bool.{_&&_}
 use borrow.Author.Needs.{needs}
 use Rattle.schema_form.proofs.columns_rule.Statement.{statement}
 use Rattle.schema_form.proofs.columns_rule.Tie as tie
@@ -18,7 +20,7 @@ all-bytes-requires c κs = search needs
 -- src/lib.rt:335:1
 returns : tie.Need-returns
 unfolding columnsRule
-returns c = cc
+returns c = ap₂ _&&_ (c .before .distinct .ensures) (c .all-bytes .ensures)
 
 pub columns-rule-spec : {M : Type 1} → statement M
 columns-rule-spec = tie.close (tie.spec distinct-requires all-bytes-requires returns)

@@ -1,4 +1,8 @@
-use mathlib.Core.Path.{sym, _∙_}
+use mathlib.Core.Path.{_≡_, sym, ap, ap₂, _∙_}
+use mathlib.Core.Bool.{_&&_}
+use Rattle.schema.specs.Ranges.{allFrom}
+use Rattle.schema.specs.Check
+use Rattle.schema.specs.Fields
 use native.Mathlib.Omega.{arith}
 use borrow.Author.Tests.{not-true, not-false}
 use borrow.Author.Needs.{needs}
@@ -43,9 +47,13 @@ all-keys-requires c κs = omega (arith, header-here (c .before .before .before))
 -- src/lib.rt:395:1
 returns-2 : tie.Need-returns-2
 returns-2 c =
-    let header-rules = c .before .before .before .before .before .header-rules in
-    let if1 = c .before .before .before .before .if1 in
-    cc (well-rest (c .before .before .before .before .before .before .before .args .s .now) (sym (header-rules .ensures) ∙ not-false _ (if1 .left)))
+    let s = c .before .before .before .before .before .before .before .args .s .now in
+    let tables : c .before .before .before .half-at .result ≡ Fields.tableCount s = c .before .before .before .half-at .ensures .0 in
+    let keys : c .before .before .half-at2 .result ≡ Fields.keyCount s = c .before .before .half-at2 .ensures .0 in
+    ap₂ _&&_
+    (c .before .all-tables .ensures ∙ ap (λ n. allFrom (Check.tableRules s) n 0) tables)
+    (c .all-keys .ensures ∙ ap (λ n. allFrom (Check.keyRules s) n 0) keys)
+    ∙ sym (well-rest s (sym (c .before .before .before .before .before .header-rules .ensures) ∙ not-false _ (c .before .before .before .before .if1 .left)))
 
 pub is-well-formed-spec : {M : Type 1} → statement M
 is-well-formed-spec =

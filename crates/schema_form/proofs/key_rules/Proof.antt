@@ -1,6 +1,7 @@
-use Rattle.schema.specs.Ranges.{every, andAll}
+use Rattle.schema.specs.Ranges.{allFrom, every, andAll}
 use Rattle.schema.specs.Check
-use mathlib.Core.Path.{_≡_, sym, ap, _∙_}
+use mathlib.Core.Path.{_≡_, sym, ap, ap₂, _∙_}
+use mathlib.Core.Bool.{_&&_}
 use Prim.Native.Nat.{ℕ, _+_}
 use native.Mathlib.Omega.{arith}
 use borrow.Author.Tests.{not-true, not-false}
@@ -72,9 +73,19 @@ columns-rule-requires-2 c κs = omega (arith, width-here (c .before .before .bef
 returns-2 : tie.Need-returns-2
 unfolding Check.keyRest every andAll
 returns-2 c =
-    let code-rules = c .before .before .before .before .before .before .before .before .code-rules in
-    let if1 = c .before .before .before .before .before .before .before .if1 in
-    cc (key-rest (c .before .before .before .before .before .before .before .before .before .before .args .s .now) (c .before .before .before .before .before .before .before .before .before .before .args .k) (sym (code-rules .ensures) ∙ not-false _ (if1 .left)), child-here (c .before .before .before .before), width-here (c .before .before .before .before))
+    let s = c .before .before .before .before .before .before .before .before .before .before .args .s .now in
+    let k = c .before .before .before .before .before .before .before .before .before .before .args .k in
+    let start = c .before .before .before .before .before .before .key-start .ensures in
+    let width = width-here (c .before .before .before .before) in
+    let columns : c .before .before .before .byte-at3 .result ≡ Fields.columnsOf s (Fields.childOf s k) = c .before .before .before .byte-at3 .ensures .0 ∙ ap (Fields.columnsOf s) (child-here (c .before .before .before .before)) in
+    let here =
+    c .before .before .column-rules .ensures
+    ∙ ap (λ (at : ℕ). allFrom (Fields.columnRule s (at + 6) (c .before .before .before .byte-at3 .result)) (c .before .before .before .before .byte-at2 .result) 0) start
+    ∙ ap₂ (λ (m n : ℕ). allFrom (Fields.columnRule s (Fields.keyStart s k + 6) m) n 0) columns width in
+    ap₂ _&&_
+    (ap₂ _&&_ here (c .before .columns-rule .ensures ∙ ap₂ (λ (at n : ℕ). Check.columnsRule s (at + 6) n) start width))
+    (c .columns-rule2 .ensures ∙ ap₂ (λ (at n : ℕ). Check.columnsRule s (at + 10) n) start width)
+    ∙ sym (key-rest s k (sym (c .before .before .before .before .before .before .before .before .code-rules .ensures) ∙ not-false _ (c .before .before .before .before .before .before .before .if1 .left)))
 
 pub key-rules-spec : {M : Type 1} → statement M
 key-rules-spec =

@@ -1,4 +1,6 @@
-use mathlib.Core.Path.{_≡_, sym, ap, _∙_}
+use mathlib.Core.Path.{_≡_, sym, ap, ap₂, _∙_}
+use mathlib.Core.Bool.{_&&_}
+use lib.Dec.{leb, ltb}
 use Prim.Native.Nat.{ℕ, _+_}
 use Rattle.schema.specs.Bytes
 use Rattle.schema.specs.Fields
@@ -42,7 +44,15 @@ byte-at-requires-4 : tie.Need-byte-at-requires-4
 byte-at-requires-4 c κs = search needs
 
 returns-2 : tie.Need-returns-2
-returns-2 c = cc (window-some _ _ (λ e. c .before .before .before .if1 .left (window-here (c .before .before .before .before) ∙ e)))
+returns-2 c =
+    let s = c .before .before .before .before .before .before .before .args .s .now in
+    let k = c .before .before .before .before .before .before .before .args .k in
+    let start = c .before .before .before .before .before .key-start .ensures in
+    let width : c .before .before .byte-at2 .result ≡ Fields.widthOf s k = c .before .before .byte-at2 .ensures .0 ∙ ap (λ (at : ℕ). Bytes.byte s (at + 5)) start in
+    let onDelete : c .before .byte-at3 .result ≡ Fields.onDeleteOf s k = c .before .byte-at3 .ensures .0 ∙ ap (λ (at : ℕ). Bytes.byte s (at + 3)) start in
+    let onUpdate : c .byte-at4 .result ≡ Fields.onUpdateOf s k = c .byte-at4 .ensures .0 ∙ ap (λ (at : ℕ). Bytes.byte s (at + 4)) start in
+    ap₂ _&&_ (ap (leb 2) width) (ap₂ _&&_ (ap (λ n. ltb n 2) onDelete) (ap (λ n. ltb n 2) onUpdate))
+    ∙ window-some s k (λ e. c .before .before .before .if1 .left (window-here (c .before .before .before .before) ∙ e))
 
 pub windowed-rule-spec : {M : Type 1} → statement M
 windowed-rule-spec =
