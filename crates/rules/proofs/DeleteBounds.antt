@@ -1,14 +1,16 @@
 -- Worked examples of how much one delete can touch: the sum is reached, and the claim needs its conditions.
 -- Assumes nothing.
-use mathlib.Core.Path.{_≡_, refl}
+use mathlib.Core.Path.{_≡_, refl, sym, ap, _∙_}
 use mathlib.Core.Bool.{Bool, true, false}
-use mathlib.Core.List.{List, [], _∷_, map}
+use mathlib.Core.List.{List, [], _∷_, map, map-map}
 use Prim.Native.Nat.{ℕ}
 use lib.IntN.{ℤ, pos}
 use lib.ListN.{set, replicate}
+use Rattle.schema.specs.Fields.{schemaOf}
+use Rattle.rules.specs.DeleteBound.{areaBound, freeRecords}
 use Rattle.rules.specs.declared.Numbered.{Numbered}
 use Rattle.rules.proofs.Inputs.{schemaS, twoKeys, threeKeys, clearedParent, clearedEnd, clearedPair, pairKey, brokenSetNull, calibrations, insert, delete, deleteWhere, begin}
-use Rattle.rules.proofs.Computed.{Turns, onBook, boundIn, boundOn, boundedBytes, answersThen, boundAfter, boundAnswered, freeAfter}
+use Rattle.rules.proofs.Computed.{Shown, Turns, show, onBook, ran, boundIn, boundOn, boundedBytes, answersThen, boundAfter, boundAnswered, freeAfter}
 use Rattle.rules.proofs.PaperCases.{changed, refused}
 
 -- schema bytes, calls from a fresh area, the sum and the free journal records then, and a delete sent next with its answer; whether the claim is about such schemas
@@ -118,6 +120,21 @@ boundCases =
     }
     ∷ []
 
+-- a case's sum and free records, and the answer of its delete: its calls are made once for all three
+unfoldable outcome : BoundCase → ℕ × ℕ × Shown
+unfolding onBook ran boundAfter freeAfter answersThen
+outcome c =
+    let ws : List ℤ = ran onBook (c .schema) (c .sent) .1 in
+    (areaBound (schemaOf (c .schema)) ws, freeRecords (schemaOf (c .schema)) ws, show (onBook (c .schema) ws (c .next ∷ []) .0))
+
+outcomes-hold : map outcome boundCases ≡ map (λ (c : BoundCase). (c .sum, c .free, c .answered ∷ [])) boundCases
+unfolding outcome boundCases
+outcomes-hold = refl
+
+module _ {A : Type 0} (part : ℕ × ℕ × Shown → A) where
+  part-holds : map (λ (c : BoundCase). part (outcome c)) boundCases ≡ map (λ (c : BoundCase). part (c .sum, c .free, c .answered ∷ [])) boundCases
+  part-holds = sym (map-map part outcome boundCases) ∙ ap (map part) outcomes-hold ∙ map-map part _ boundCases
+
 -- the sums; as answers they are computed in `worked_calls`
 abbrev pub SumsHold : Turns → Type 0
 SumsHold turns = map (λ (c : BoundCase). boundAfter turns (c .schema) (c .sent)) boundCases ≡ map (λ (c : BoundCase). c .sum) boundCases
@@ -126,24 +143,24 @@ abbrev pub SumsAnswered : Turns → Type 0
 SumsAnswered turns = map (λ (c : BoundCase). boundAnswered turns (c .schema) (c .sent)) boundCases ≡ map (λ (c : BoundCase). number (c .sum)) boundCases
 
 pub sums-hold : SumsHold onBook
-unfolding onBook boundAfter boundCases
-sums-hold = refl
+unfolding outcome boundAfter
+sums-hold = part-holds (λ r. r .0)
 
 -- the free records
 abbrev pub FreeHold : Turns → Type 0
 FreeHold turns = map (λ (c : BoundCase). freeAfter turns (c .schema) (c .sent)) boundCases ≡ map (λ (c : BoundCase). c .free) boundCases
 
 pub free-hold : FreeHold onBook
-unfolding onBook freeAfter boundCases
-free-hold = refl
+unfolding outcome freeAfter
+free-hold = part-holds (λ r. r .1)
 
 -- the deletes sent next
 abbrev pub DeletesHold : Turns → Type 0
 DeletesHold turns = map (λ (c : BoundCase). answersThen turns (c .schema) (c .sent) (c .next ∷ [])) boundCases ≡ map (λ (c : BoundCase). c .answered ∷ []) boundCases
 
 pub deletes-hold : DeletesHold onBook
-unfolding onBook answersThen boundCases
-deletes-hold = refl
+unfolding outcome answersThen
+deletes-hold = part-holds (λ r. r .2)
 
 -- the schemas
 pub claimed-hold : map (λ (c : BoundCase). boundedBytes (c .schema)) boundCases ≡ map (λ (c : BoundCase). c .claimed) boundCases
