@@ -22,7 +22,7 @@ returns : tie.Need-returns
 returns c = let b = c .before .before .before .args .bytes .now in no-row (schemaOf b) _ _ (omega arith)
 
 rows-requires : tie.Need-rows-requires
-rows-requires c κs = search needs
+rows-requires c κs = (c .before .before .before .pre, omega arith)
 
 returns-2 : tie.Need-returns-2
 returns-2 c = ap (ltb _) (c .rows .ensures .0)

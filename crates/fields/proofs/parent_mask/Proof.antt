@@ -36,7 +36,9 @@ add-key-byte : tie.Need-add-key-byte Inv-loop μ-loop
 add-key-byte c = search needs
 
 key-byte-requires : tie.Need-key-byte-requires Inv-loop μ-loop
-key-byte-requires c κs = search needs
+key-byte-requires c κs =
+    let s = c .before .before .before in
+    (s .pre .0, (s .pre .1 .0, omega arith))
 
 returns : tie.Need-returns Inv-loop μ-loop
 returns c =

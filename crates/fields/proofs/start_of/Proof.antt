@@ -1,6 +1,6 @@
 use Rattle.schema.specs.Records.{tableOf}
 use Prim.Native.Nat.{_-_}
-use mathlib.Core.Path.{_≡_, ap, _∙_}
+use mathlib.Core.Path.{_≡_, ap, ap₂, _∙_}
 use Prim.Native.Nat.{_+_, _*_, _≤_}
 use native.Mathlib.Omega.{arith}
 use borrow.Author.Needs.{needs}
@@ -36,8 +36,9 @@ loop-less c = search needs
 loop-again : tie.Need-loop-again Inv-loop μ-loop
 loop-again c =
     let s = schemaOf (c .before .before .before .before .args .bytes .now) in
-    let e : c .before .before .loop .at + c .table-words .result ≡ tableOffset s (c .before .before .loop .i) + tableSize (tableOf s (c .before .before .loop .i)) = cc in
-    (search needs, (e ∙ offset-more s (c .before .before .loop .i) (omega arith), search needs))
+    let l = c .before .before .loop in
+    let e : l .at + c .table-words .result ≡ tableOffset s (l .i) + tableSize (tableOf s (l .i)) = ap₂ _+_ (l .inv .1 .0) (c .table-words .ensures .0) in
+    (search needs, (e ∙ offset-more s (l .i) (omega arith), search needs))
 
 returns : tie.Need-returns Inv-loop μ-loop
 returns c =

@@ -1,6 +1,7 @@
 use mathlib.Core.Path.{_∙_}
 use Rattle.schema.specs.Fields
 use Rattle.schema.proofs.FieldLaws.{byte-assoc, read-unique}
+use native.Mathlib.Omega.{arith}
 use borrow.Author.Needs.{needs}
 use Rattle.fields.proofs.unique_mask.Statement.{statement}
 use Rattle.fields.proofs.unique_mask.Tie as tie
@@ -14,7 +15,7 @@ add-table-byte c = search needs
 
 -- src/lib.rt:80:5
 table-byte-requires : tie.Need-table-byte-requires
-table-byte-requires c κs = search needs
+table-byte-requires c κs = (c .before .pre .0, (c .before .pre .1 .0, omega (arith, c .before .pre .1 .1)))
 
 -- src/lib.rt:76:1
 returns : tie.Need-returns
