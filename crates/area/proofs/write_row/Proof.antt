@@ -1,3 +1,4 @@
+use mathlib.Core.Path.{_∙_}
 use native.Mathlib.Omega.{arith}
 use Rattle.schema.proofs.FieldLaws.{room-few}
 use Rattle.area.proofs.Places.{area-long}
@@ -38,7 +39,10 @@ set-record-requires c κs =
     (omega (arith, nat-at .ensures, area-long (s .pre .0 .ready .fit)), (omega (arith, place-word (s .pre .0) (s .pre .1)), omega (arith, nat-at .ensures, room-few _ (s .pre .0 .ready .accepted))))
 
 put-in-table-requires : tie.Need-put-in-table-requires
-put-in-table-requires c κs = search needs
+put-in-table-requires c κs =
+    let set-record = c .before .before .set-record in
+    let s = c .before .before .before .before .before .before .before .before .before .before .before in
+    (record { accepted = s .pre .0 .ready .accepted; table = s .pre .0 .table; row = s .pre .0 .row }, set-record .kept .0 ∙ s .pre .0 .ready .fit .size)
 
 same-length : tie.Need-same-length
 same-length c = search needs
