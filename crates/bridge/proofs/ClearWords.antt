@@ -2,20 +2,20 @@
 -- Assumes nothing.
 use mathlib.Core.Path.{_≡_, refl, sym, _∙_, ap, ap₂}
 use mathlib.Core.Bool.{true}
-use mathlib.Core.List.{List, [], _∷_, _++_, map, reverse, append-assoc}
-use Prim.Native.Nat.{ℕ, _+_, _-_, _*_, _≤_}
+use mathlib.Core.List.{List, _++_, append-assoc}
+use Prim.Native.Nat.{ℕ, _+_, _-_, _*_}
 use native.Mathlib.Omega.{arith}
-use lib.IntN.{ℤ, pos}
-use lib.ListN.{length, getD, set, take, replicate, length-append, length-map, length-reverse, length-replicate}
+use lib.IntN.{ℤ}
+use lib.ListN.{length, getD, set, take, replicate, length-append, length-replicate}
 use lib.Seq.{take-at}
-use Rattle.bridge.proofs.JournalWords.{records, flat-sized}
-use Rattle.bridge.proofs.RoundTrip.{Formed, levelList, recordList, records-sized, levels-length, tables-are, all-zeros, flat-zeros}
+use Rattle.bridge.proofs.AreaParts.{recordWords, frontWords, words-split, front-length, records-length}
+use Rattle.bridge.proofs.RoundTrip.{Formed, all-zeros, flat-zeros}
 use Rattle.bridge.proofs.RowWords.{formed-fit, use-is, keeps-words}
 use Rattle.bridge.proofs.Tests.{all-append}
 use Rattle.bridge.proofs.Undo.{Undoes, Fine, went, stopped, put-back-all}
 use Rattle.bridge.proofs.Views.{words-view}
 use Rattle.bridge.specs.Fit.{workOf, Fit, Keeps}
-use Rattle.rules.specs.Area.{levelWords, entryWords, words, view}
+use Rattle.rules.specs.Area.{words, view}
 use Rattle.rules.specs.Book.{Entry, Work, Book, undoTo, emptied, cleared, zeroRecords, withWork}
 use Rattle.rules.specs.Change.{Result, go, stop}
 use Rattle.rules.specs.Lists.{𝟘, flat}
@@ -26,81 +26,42 @@ use Rattle.schema.specs.Ranges.{all}
 use Rattle.schema.specs.Records.{Schema}
 use Rattle.schema.specs.Sizes.{rowsSize, areaSize}
 
-pub flat-append : {A : Type 0} (xs ys : List (List A)) → flat (xs ++ ys) ≡ flat xs ++ flat ys
-unfolding flat
-flat-append [] ys = refl
-flat-append (x ∷ xs) ys = ap (λ l. x ++ l) (flat-append xs ys) ∙ sym (append-assoc x (flat xs) (flat ys))
-
--- the words before the journal
-before : Book → List ℤ
-before b =
-    (pos (length (b .levels)) ∷ pos (b .opener) ∷ pos (length (b .work .used)) ∷ 𝟘 ∷ [])
-    ++ (b .kept
-    ++ (flat (map levelWords (reverse (b .levels)) ++ b .closed)
-    ++ flat (map flat (b .work .tabs))))
-
-last-of-five : {A : Type 0} (h k l r j : List A) → h ++ (k ++ (l ++ (r ++ j))) ≡ (h ++ (k ++ (l ++ r))) ++ j
-last-of-five h k l r j = simp append-assoc
-
-words-before : (b : Book) → words b ≡ before b ++ flat (records (b .work))
-unfolding words before
-words-before b =
-    last-of-five (pos (length (b .levels)) ∷ pos (b .opener) ∷ pos (length (b .work .used)) ∷ 𝟘 ∷ []) (b .kept) (flat (map levelWords (reverse (b .levels)) ++ b .closed)) (flat (map flat (b .work .tabs))) (flat (records (b .work)))
-
 -- the words before the spare records
 front : Book → List ℤ
-front b = before b ++ flat (map entryWords (reverse (b .work .used)))
+front b = frontWords b ++ recordWords (b .work .used)
 
 words-front : (b : Book) → words b ≡ front b ++ flat (b .work .spare)
 unfolding front
-words-front b =
-    words-before b
-    ∙ ap (λ x. before b ++ x) (flat-append (map entryWords (reverse (b .work .used))) (b .work .spare))
-    ∙ sym (append-assoc (before b) (flat (map entryWords (reverse (b .work .used)))) (flat (b .work .spare)))
+words-front b = words-split b ∙ sym (append-assoc (frontWords b) (recordWords (b .work .used)) (flat (b .work .spare)))
 
 front-cleared : (b : Book) → front (cleared b) ≡ front b
-unfolding before front cleared
+unfolding frontWords front cleared
 front-cleared b = refl
 
 module _ {s : Schema} {a : List ℤ} (f : Fit s a) where
-  used-words : length (flat (map entryWords (reverse (view s a .work .used)))) ≡ length (view s a .work .used) * 10
-  unfolding recordList
-  used-words =
-      let b : Book = view s a in
-      let n : length (map entryWords (reverse (b .work .used))) ≡ length (b .work .used) = simp (length-map, length-reverse) in
-      let t : take (length (b .work .used)) (map entryWords (reverse (b .work .used)) ++ b .work .spare) ≡ map entryWords (reverse (b .work .used)) = take-at (map entryWords (reverse (b .work .used))) (b .work .spare) (length (b .work .used)) n in
-      let l : length (b .work .used) ≤ length (map entryWords (reverse (b .work .used)) ++ b .work .spare) = simp (length-append, length-map, length-reverse) (omega arith) in
-      ap (λ x. length (flat x)) (sym t) ∙ flat-sized 10 (length (b .work .used)) (map entryWords (reverse (b .work .used)) ++ b .work .spare) (records-sized (formed-fit f)) l
-
-  before-length : length (before (view s a)) ≡ 333 + rowsSize (s .tables)
-  unfolding before levelList
-  before-length =
-      let g : Formed s (view s a) = formed-fit f in
-      simp length-append (omega (arith, g .kept-length, levels-length g, tables-are g .1))
-
-  front-length : length (front (view s a)) ≡ 333 + rowsSize (s .tables) + natOf (getD a 2 𝟘) * 10
+  to-spare : length (front (view s a)) ≡ 333 + rowsSize (s .tables) + natOf (getD a 2 𝟘) * 10
   unfolding front workOf
-  front-length = simp length-append (omega (arith, before-length, used-words, use-is f))
+  to-spare = simp length-append (omega (arith, front-length (formed-fit f), records-length (formed-fit f), use-is f))
 
   pub words-cleared : (n : ℕ) → n ≡ 333 + rowsSize (s .tables) + natOf (getD a 2 𝟘) * 10 → words (cleared (view s a)) ≡ take n a ++ replicate (length a - n) 𝟘
   unfolding cleared workOf areaSize
   words-cleared n e =
       let b : Book = view s a in
       let w : words b ≡ a = words-view s a (f .size) (f .legible-is) in
-      let p : front b ≡ take n a = sym (ap (take n) (sym w ∙ words-front b) ∙ take-at (front b) (flat (b .work .spare)) n (front-length ∙ sym e)) in
+      let p : front b ≡ take n a = sym (ap (take n) (sym w ∙ words-front b) ∙ take-at (front b) (flat (b .work .spare)) n (to-spare ∙ sym e)) in
       let m : length (b .work .spare) * 10 ≡ length a - n = omega (arith, f .size, formed-fit f .room, use-is f) in
       words-front (cleared b) ∙ ap₂ (λ x y. x ++ y) (front-cleared b ∙ p) (flat-zeros 𝟘 10 (length (b .work .spare)) ∙ ap (λ k. replicate k 𝟘) m)
 
   -- every record of the journal zeroed, and the use lowered to 0
   words-emptied : (n : ℕ) → n ≡ 333 + rowsSize (s .tables) → words (withWork (emptied (workOf s a)) (view s a)) ≡ set (take n a ++ replicate (length a - n) 𝟘) 2 𝟘
-  unfolding before emptied workOf areaSize
+  unfolding frontWords recordWords flat emptied workOf areaSize
   words-emptied n e =
       let b : Book = view s a in
       let w : words b ≡ a = words-view s a (f .size) (f .legible-is) in
-      let p : before b ≡ take n a = sym (ap (take n) (sym w ∙ words-before b) ∙ take-at (before b) (flat (records (b .work))) n (before-length ∙ sym e)) in
+      let p : frontWords b ≡ take n a = sym (ap (take n) (sym w ∙ words-split b) ∙ take-at (frontWords b) _ n (front-length (formed-fit f) ∙ sym e)) in
       let m : (length (b .work .used) + length (b .work .spare)) * 10 ≡ length a - n = omega (arith, f .size, formed-fit f .room) in
-      words-before (withWork (emptied (b .work)) b)
-      ∙ ap (λ x. set (before b ++ x) 2 𝟘) (flat-zeros 𝟘 10 (length (b .work .used) + length (b .work .spare)) ∙ ap (λ k. replicate k 𝟘) m)
+      words-split (withWork (emptied (b .work)) b)
+      ∙ ap (λ x. set (frontWords b ++ x) 2 𝟘) (flat-zeros 𝟘 10 (length (b .work .used) + length (b .work .spare)) ∙ ap (λ k. replicate k 𝟘) m)
       ∙ ap (λ x. set (x ++ replicate (length a - n) 𝟘) 2 𝟘) p
 
   formed-emptied : Formed s (withWork (emptied (workOf s a)) (view s a))

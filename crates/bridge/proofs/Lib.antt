@@ -15,6 +15,7 @@ pub mod RoundTrip
 pub mod RowWords
 pub mod UndoWords
 pub mod LevelWords
+pub mod AreaParts
 pub mod ClearWords
 pub mod Bits
 pub mod StateBits

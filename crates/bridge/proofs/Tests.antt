@@ -24,6 +24,10 @@ and-same e f = rw (e, f) refl
 pub or-same : {a b p q : Bool} → a ≡ p → b ≡ q → a || b ≡ p || q
 or-same e f = rw (e, f) refl
 
+pub or-right : (a b : Bool) → b ≡ true → a || b ≡ true
+or-right true b h = refl
+or-right false b h = h
+
 pub holds : {a : Bool} → a ≡ true → T a
 holds h = rw h tt
 

@@ -68,6 +68,13 @@ change-regular r h =
     let high : leb (number r) 18 || leb 23 (number r) ≡ true = and-right (leb 14 (number r)) (leb (number r) 18 || leb 23 (number r)) h in
     rw (ne-eqb (number r) 10 (λ e. omega (arith, low)), ne-eqb (number r) 19 (λ e. false≢true (rw e at high)))
 
+-- the number of an open level
+pub level-in : (b : Book) (a : ℕ) → levelOpen b a ≡ true → (0 < a) × (a ≤ length (b .levels))
+unfolding levelOpen
+level-in b a h =
+    let e : leb 1 a && leb a (length (b .levels)) ≡ true = and-left (leb 1 a && leb a (length (b .levels))) _ h in
+    (leb→le 1 a (holds (and-left (leb 1 a) _ e)), leb→le a _ (holds (and-right (leb 1 a) _ e)))
+
 module _ {s : Schema} {b : Book} (v : Valid s) (g : Good s b) where
   of-check : {c : Call} (t : Bool) (r : Refusal) (k : Book → Turn) → regular r ≡ true → (t ≡ true → Outcome s b c (k b)) → Outcome s b c (check t r k b)
   unfolding check
@@ -130,14 +137,6 @@ module _ {s : Schema} {b : Book} (v : Valid s) (g : Good s b) where
       by true e = of-committed (ends-release a (eqb→eq a 1 (holds e)))
       by false e = let ne : a ≢ 1 = λ q. true≢false (sym (ap (λ m. eqb m 1) q) ∙ e) in closing a (omega arith) h′ refl
 
-  level-pos : (a : ℕ) → levelOpen b a ≡ true → 0 < a
-  unfolding levelOpen
-  level-pos a h = leb→le 1 a (holds (and-left (leb 1 a) _ (and-left (leb 1 a && leb a (length (b .levels))) _ h)))
-
-  level-le : (a : ℕ) → levelOpen b a ≡ true → a ≤ length (b .levels)
-  unfolding levelOpen
-  level-le a h = leb→le a _ (holds (and-right (leb 1 a) _ (and-left (leb 1 a && leb a (length (b .levels))) _ h)))
-
   good-opener : (i : Bool) → openerFits i (b .opener) ≡ true → openerFits true (openerOf i (b .opener)) ≡ true
   unfolding openerOf openerFits
   good-opener true h = h
@@ -151,8 +150,8 @@ module _ {s : Schema} {b : Book} (v : Valid s) (g : Good s b) where
   of-act (delete t r) i = of-row _ t r _ (λ x k. refl) i
   of-act begin i = of-check _ _ _ refl (λ h. of-opened 1 (b .closed) (λ x k. refl) refl (λ i. absurd (true≢false (sym i ∙ fails _ h))) refl)
   of-act savepoint i = of-opened _ (b .closed) (λ x k. refl) refl (λ i. rw i refl) (good-opener (inTransaction (b .levels)) (g .heading))
-  of-act (release a) i = of-check _ _ _ refl (λ h. of-released a (level-pos a h) (level-le a h))
-  of-act (rollbackTo a) i = of-check _ _ _ refl (λ h. backing a (level-pos a h) (level-le a h) refl)
+  of-act (release a) i = of-check _ _ _ refl (λ h. of-released a (level-in b a h .0) (level-in b a h .1))
+  of-act (rollbackTo a) i = of-check _ _ _ refl (λ h. backing a (level-in b a h .0) (level-in b a h .1) refl)
   of-act rollback i = of-check _ _ _ refl (λ h. aborting h refl)
   of-act commit i = of-check _ _ _ refl (λ h. of-committed (λ x k e. refl))
   of-act (deleteWhere t c m x) i = of-found t _ _ (λ x k. refl)

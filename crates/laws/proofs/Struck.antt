@@ -32,12 +32,17 @@ use Rattle.rules.specs.declared.Refusal.the-variants.{CommitWithOrphans}
 use Rattle.schema.proofs.SchemaLaws.{Valid}
 use Rattle.schema.specs.Records.{Schema}
 
--- one call more
 module _ {A : Type 0} (turn : List ℤ → A → Answer × A) where
+  -- calls, and then others
+  pub run-append : (cs ds : List (List ℤ)) (a : A) → runAll turn (cs ++ ds) a ≡ (runAll turn cs a .0 ++ runAll turn ds (runAll turn cs a .1) .0, runAll turn ds (runAll turn cs a .1) .1)
+  unfolding runAll
+  run-append [] ds a = refl
+  run-append (c ∷ cs) ds a = ap {B = List Logged × A} (λ r. ((c, turn c a .0) ∷ r .0, r .1)) (run-append cs ds (turn c a .1))
+
+  -- one call more
   pub run-snoc : (cs : List (List ℤ)) (c : List ℤ) (a : A) → runAll turn (cs ++ (c ∷ [])) a ≡ (runAll turn cs a .0 ++ ((c, turn c (runAll turn cs a .1) .0) ∷ []), turn c (runAll turn cs a .1) .1)
   unfolding runAll
-  run-snoc [] c a = refl
-  run-snoc (c′ ∷ cs) c a = ap {B = List Logged × A} (λ r. ((c′, turn c′ a .0) ∷ r .0, r .1)) (run-snoc cs c (turn c′ a .1))
+  run-snoc cs c a = run-append cs (c ∷ []) a
 
 -- the line's calls, run from the start, get the line's answers and lead to the book
 pub record Reach (s : Schema) (start : Book) (line : List Logged) (b : Book) : Type 0 where

@@ -24,7 +24,7 @@ use Rattle.bridge.proofs.JournalWords.{flat-sized, sized-at}
 use Rattle.bridge.proofs.RoundTrip.{Formed, of-size, all-zeros, levelList, levels-sized, levels-count, levels-length, flat-zeros}
 use Rattle.bridge.proofs.RowWords.{formed-fit, sets-splice}
 use Rattle.bridge.proofs.HoldLaws.{holds-words, then-step}
-use Rattle.bridge.proofs.ClearWords.{flat-append}
+use Rattle.bridge.proofs.AreaParts.{flat-append}
 use Rattle.levels.specs.Parts.{withKept, withOpener}
 use Rattle.levels.proofs.Stacks.{flat-take, flat-drop, drop-reverse, stack-push}
 
