@@ -1,3 +1,2 @@
 pub mod RunLaws
 pub mod FreshLaws
-pub mod RunDemand

@@ -3,17 +3,14 @@
 use mathlib.Core.Path.{_≡_}
 use mathlib.Core.Bool.{Bool, true, false}
 use mathlib.Core.List.{List, _++_, map}
-use Prim.Native.Nat.{ℕ, _+_, _*_, _/_, _≤_}
+use Prim.Native.Nat.{ℕ, _+_, _*_, _/_}
 use lib.Dec.{leb}
 use lib.IntN.{ℤ}
 use lib.ListN.{length, take, drop}
 use lib.Seq.{sets}
-use Rattle.schema.specs.Fields.{schemaOf}
 use Rattle.rules.specs.Lists.{flat, chunks}
 use Rattle.rules.specs.Step.{Logged}
-use Rattle.rules.specs.Area.{freshWords}
 use Rattle.rules.specs.Engine.{runOn}
-use Rattle.rules.specs.Strike.{callsOf, leftOf, Demand3}
 use Rattle.laws.specs.Reached.{Reached}
 use Rattle.answers.specs.AnswerWords.{answerWords}
 use Rattle.engine.specs.Calls.{callWords}
@@ -45,13 +42,3 @@ runCalls bs calls area answers =
     let n : ℕ = callsRun (length calls) (length answers) in
     let r : List Logged × List ℤ = runOn bs (chunks 12 n calls) area in
     (n, r .1, answersWords (r .0) ++ drop (n * 3) answers)
-
--- demand 3 of calls laid end to end, from a fresh area
-pub record RunDemand3 (bs : List ℕ) (calls answers : List ℤ) : Type 0 where
-  -- of the calls that are run
-  pub demand : Demand3 bs (freshWords (schemaOf bs)) (chunks 12 (callsRun (length calls) (length answers)) calls)
-  -- what is left of them, laid end to end and run on another fresh area with room for the answers, gets the same answers and ends equal in every word
-  pub again : (left : List Logged) → left ≡ leftOf bs (freshWords (schemaOf bs)) (chunks 12 (callsRun (length calls) (length answers)) calls)
-      → (answers′ : List ℤ) → length left * 3 ≤ length answers′
-      → runCalls bs (flat (callsOf left)) (freshWords (schemaOf bs)) answers′
-      ≡ (length left, runCalls bs calls (freshWords (schemaOf bs)) answers .1, answersWords left ++ drop (length left * 3) answers′)

@@ -26,7 +26,8 @@ use Rattle.rules.specs.Strike.{Struck, place, mark, marks, strike, callsOf, end
 use Rattle.bridge.proofs.Tests.{all-append, all-cons}
 use Rattle.bridge.proofs.RoundTrip.{of-size, length-flat, chunks-flat, all-take, all-map}
 use Rattle.laws.proofs.Demand3.{fresh-demand-3}
-use Rattle.runs.specs.Runs.{least, callsRun, runCalls, answersWords, RunDemand3}
+use Rattle.runs.specs.Runs.{least, callsRun, runCalls, answersWords}
+use Rattle.run_laws.specs.RunDemand.{RunDemand3}
 
 -- a call of twelve words
 unfoldable twelve : Logged → Bool
@@ -76,25 +77,21 @@ calls-all n room h = by (leb ((n * 12 + 11) / 12) (room / 3)) refl
     by false e = absurd (omega (arith, h, leb-false ((n * 12 + 11) / 12) (room / 3) e))
 
 -- calls of twelve words, laid end to end, are those calls
-module _ (bs : List ℕ) (log : List Logged) (sized : all twelve log ≡ true) (area answers : List ℤ) (room : length log * 3 ≤ length answers) where
-  calls-sized : all (of-size 12) (callsOf log) ≡ true
-  unfolding callsOf twelve
-  calls-sized = all-map twelve (of-size 12) (λ x. x .0) (λ x h. h) log sized
+module _ (bs : List ℕ) (cs : List (List ℤ)) (sized : all (of-size 12) cs ≡ true) (area answers : List ℤ) (room : length cs * 3 ≤ length answers) where
+  count-is : callsRun (length (flat cs)) (length answers) ≡ length cs
+  count-is = ap (λ n. callsRun n (length answers)) (length-flat 12 cs sized) ∙ calls-all (length cs) (length answers) room
 
-  calls-count : length (callsOf log) ≡ length log
-  unfolding callsOf
-  calls-count = simp length-map refl
-
-  count-is : callsRun (length (flat (callsOf log))) (length answers) ≡ length log
-  count-is = ap (λ n. callsRun n (length answers)) (length-flat 12 (callsOf log) calls-sized ∙ ap (λ n. n * 12) calls-count) ∙ calls-all (length log) (length answers) room
-
-  chunks-are : chunks 12 (length log) (flat (callsOf log)) ≡ callsOf log
-  chunks-are = ap (λ n. chunks 12 n (flat (callsOf log))) (sym calls-count) ∙ chunks-flat 12 (callsOf log) calls-sized
-
-  run-again : runCalls bs (flat (callsOf log)) area answers
-      ≡ (length log, runOn bs (callsOf log) area .1, answersWords (runOn bs (callsOf log) area .0) ++ drop (length log * 3) answers)
+  pub run-laid : runCalls bs (flat cs) area answers ≡ (length cs, runOn bs cs area .1, answersWords (runOn bs cs area .0) ++ drop (length cs * 3) answers)
   unfolding runCalls
-  run-again = rw (count-is, chunks-are) refl
+  run-laid = rw (count-is, chunks-flat 12 cs sized) refl
+
+calls-sized : (log : List Logged) → all twelve log ≡ true → all (of-size 12) (callsOf log) ≡ true
+unfolding callsOf twelve
+calls-sized log sized = all-map twelve (of-size 12) (λ x. x .0) (λ x h. h) log sized
+
+calls-count : (log : List Logged) → length (callsOf log) ≡ length log
+unfolding callsOf
+calls-count log = simp length-map refl
 
 module _ (bs : List ℕ) (acc : checkSchema bs ≡ Accepted) (calls answers : List ℤ) where
   demand-of : Demand3 bs (freshWords (schemaOf bs)) (chunks 12 (callsRun (length calls) (length answers)) calls)
@@ -111,6 +108,7 @@ module _ (bs : List ℕ) (acc : checkSchema bs ≡ Accepted) (calls answers : Li
             let end : List ℤ = endOf bs (freshWords (schemaOf bs)) (chunks 12 (callsRun (length calls) (length answers)) calls) in
             let same : runOn bs (callsOf left) (freshWords (schemaOf bs)) ≡ (left, end)
             = ap (λ l. runOn bs (callsOf l) (freshWords (schemaOf bs))) e ∙ demand-of .same ∙ ap (λ l. (l, end)) (sym e) in
-            run-again bs left sized (freshWords (schemaOf bs)) answers′ room
-            ∙ ap (λ (r : List Logged × List ℤ). (length left, r .1, answersWords (r .0) ++ drop (length left * 3) answers′)) same;
+            rw (← (calls-count left))
+            (run-laid bs (callsOf left) (calls-sized left sized) (freshWords (schemaOf bs)) answers′ (rw (calls-count left) room)
+            ∙ ap (λ (r : List Logged × List ℤ). (length (callsOf left), r .1, answersWords (r .0) ++ drop (length (callsOf left) * 3) answers′)) same);
       }

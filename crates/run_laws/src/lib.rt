@@ -1,0 +1,1 @@
+// Nothing runs here: the crate holds what is proved of a run of calls.
