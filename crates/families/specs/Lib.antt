@@ -1,0 +1,3 @@
+pub mod Families
+pub mod EitherOrder
+pub mod SentCalls
