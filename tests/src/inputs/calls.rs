@@ -150,7 +150,13 @@ pub fn new_row(r: &mut Random, ground: &Ground, area: &Area, table: usize) -> Ro
 }
 
 /// The old row with some columns changed, or a new one.
-fn updated(r: &mut Random, ground: &Ground, area: &Area, table: usize, old: Option<Row>) -> Row {
+pub fn updated(
+    r: &mut Random,
+    ground: &Ground,
+    area: &Area,
+    table: usize,
+    old: Option<Row>,
+) -> Row {
     let mut row = match old {
         Some(row) if !r.once_in(4) => row,
         _ => return new_row(r, ground, area, table),

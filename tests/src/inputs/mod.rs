@@ -7,6 +7,7 @@ pub mod broken_keys;
 pub mod calls;
 pub mod damages;
 pub mod delete_calls;
+pub mod families;
 pub mod far_deletes;
 pub mod folded;
 pub mod folded_calls;

@@ -10,7 +10,12 @@ use crate::random::Random;
 /// The deletion of a row that a child row refers to, or a change of its key. None where a child row
 /// picked at random has no parent.
 pub fn any(r: &mut Random, ground: &Ground, area: &Area) -> Option<Vec<i64>> {
-    let (key, (row, parent)) = some_parent(r, ground, area)?;
+    of_keys(r, ground, area, &all_keys(ground))
+}
+
+/// The same by one of these keys.
+pub fn of_keys(r: &mut Random, ground: &Ground, area: &Area, keys: &[&Key]) -> Option<Vec<i64>> {
+    let (key, (row, parent)) = some_parent(r, area, keys)?;
     if r.once_in(2) {
         return Some(row_call(3, key.parent, row, &[]));
     }
@@ -20,17 +25,20 @@ pub fn any(r: &mut Random, ground: &Ground, area: &Area) -> Option<Vec<i64>> {
 
 /// The deletion of a row that a child row refers to. None as above.
 pub fn deletion(r: &mut Random, ground: &Ground, area: &Area) -> Option<Vec<i64>> {
-    let (key, (row, _)) = some_parent(r, ground, area)?;
+    let (key, (row, _)) = some_parent(r, area, &all_keys(ground))?;
     Some(row_call(3, key.parent, row, &[]))
 }
 
-/// The parent of some child row, and the key by which that refers to it.
-fn some_parent<'a>(r: &mut Random, ground: &'a Ground, area: &Area) -> Option<(&'a Key, Numbered)> {
-    let keys = &ground.schema.keys;
+fn all_keys(ground: &Ground) -> Vec<&Key> {
+    ground.schema.keys.iter().collect()
+}
+
+/// The parent of some child row, and the one of these keys by which that refers to it.
+fn some_parent<'a>(r: &mut Random, area: &Area, keys: &[&'a Key]) -> Option<(&'a Key, Numbered)> {
     if keys.is_empty() {
         return None;
     }
-    let key = &keys[r.between(0, keys.len() - 1)];
+    let key = r.pick(keys);
     let parent = referred_to(r, area, key)?;
     Some((key, parent))
 }

@@ -4,6 +4,7 @@ pub mod area;
 pub mod bound;
 pub mod change;
 pub mod damage;
+pub mod families;
 pub mod folding;
 pub mod form;
 pub mod keys;

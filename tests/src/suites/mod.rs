@@ -4,6 +4,7 @@ mod broken_keys;
 mod child_rows;
 mod delete_bounds;
 mod edges;
+mod either_order;
 mod folded;
 mod half_filled;
 mod met;
@@ -35,6 +36,7 @@ pub const ALL: &[(&str, Suite)] = &[
     ("windows", windows::run),
     ("orphan_lists", orphan_lists::run),
     ("delete_bounds", delete_bounds::run),
+    ("either_order", either_order::run),
     ("replay", replay::run),
     ("edges", edges::run),
     ("sqlite", sqlite::run),
