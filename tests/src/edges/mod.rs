@@ -3,6 +3,7 @@
 
 mod bounds;
 mod broken_keys;
+mod families;
 mod folded;
 mod limits;
 mod lists;
@@ -63,6 +64,7 @@ pub fn all() -> Vec<Case> {
         folded::cases(),
         windows::cases(),
         bounds::cases(),
+        families::cases(),
     ]
     .into_iter()
     .flatten()

@@ -6,6 +6,7 @@ mod bound_answers;
 mod broken_keys;
 mod broken_readings;
 mod delete_bound;
+mod families;
 mod folded;
 mod left_days;
 mod match_full;
@@ -58,6 +59,7 @@ pub fn all() -> Vec<Named> {
         left_days::ALL,
         shared_days::ORDER,
         shared_days::SHARED,
+        families::ALL,
     ];
     let misread = lists.into_iter().flatten().map(|&(name, change)| {
         let mut model = Model::of_the_paper();
@@ -67,7 +69,11 @@ pub fn all() -> Vec<Named> {
     let readings = [match_full::READINGS, folded::READINGS, windows::READINGS];
     let readings = readings.into_iter().flatten().map(other_bytes::engine);
     let bounds = bound_answers::ALL.iter().map(worthless::with_bounds);
-    let others = [worthless::all(), broken_readings::by_statement()];
+    let others = [
+        worthless::all(),
+        broken_readings::by_statement(),
+        families::of_rollbacks(),
+    ];
     let others = others.into_iter().flatten();
     let engines = misread.chain(readings).chain(bounds);
     engines.chain(others).collect()

@@ -25,7 +25,7 @@ const LEAST_ENDED_ALIKE: usize = 1_000;
 /// outside a transaction, and how many on one family to be told apart in each way.
 const LEAST_TIGHT: usize = 1_000;
 const LEAST_OUTSIDE: usize = 1_000;
-const LEAST_TOLD_APART: usize = 3;
+const LEAST_TOLD_APART: usize = 1;
 
 /// The kinds of calls that write rows.
 const KINDS: &[i64] = &[1, 2, 3, 10, 11];

@@ -9,6 +9,7 @@ use crate::trials::bounded_deletes::BoundedDeletes;
 use crate::trials::broken_keys;
 use crate::trials::child_rows::ChildRows;
 use crate::trials::delete_bounds::DeleteBounds;
+use crate::trials::either_order::EitherOrder;
 use crate::trials::every_day::EveryDay;
 use crate::trials::every_parent::EveryParent;
 use crate::trials::folded;
@@ -71,6 +72,10 @@ const PARTS: &[Part] = &[
             every.windows(engine),
         ];
         outcomes.iter().any(|outcome| outcome.is_err())
+    }),
+    ("calls in either order", |engine, r| {
+        let mut orders = EitherOrder::default();
+        (0..12).any(|_| orders.trial(engine, r).is_err())
     }),
     ("lists replayed", |engine, r| {
         let mut replay = Replay::new();

@@ -72,7 +72,10 @@ impl EitherOrder {
         }
         if r.once_in(3) {
             let family = &families[r.between(0, families.len() - 1)];
-            self.of_one_family(on, r, &area, family);
+            let table = r.between(0, family.len() - 1);
+            let one_table = &family[table..=table];
+            let tables = r.pick(&[family, one_table]);
+            self.of_one_family(on, r, &area, tables);
         }
         if let Some(two) = some_two(r, families) {
             area = self.of_two_families(on, r, area, two)?;
@@ -192,9 +195,9 @@ impl EitherOrder {
         }
     }
 
-    /// Two calls inside a transaction on one family: what the other order gives.
-    fn of_one_family(&mut self, on: &On, r: &mut Random, area: &[i64], family: &Family) {
-        let found = some_pair(on, r, area, [family, family]);
+    /// Two calls inside a transaction on tables of one family: what the other order gives.
+    fn of_one_family(&mut self, on: &On, r: &mut Random, area: &[i64], tables: &Family) {
+        let found = some_pair(on, r, area, [tables, tables]);
         if let Some([one, other]) = found {
             let first = on.send_both(area, [&one, &other]);
             let reversed = on.send_reversed(area, [&one, &other]);

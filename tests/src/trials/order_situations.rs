@@ -86,12 +86,13 @@ pub const SITUATIONS: &[Situation] = &[
     }),
     ("a table between two of another family", |s| {
         let families = of_tables(s.before.schema);
-        let [one, other] = s.tables.map(|table| families[table]);
-        let of = |family: usize| move |&found: &usize| found == family;
-        let first = families.iter().position(|found| of(other)(found));
-        let last = families.iter().rposition(|found| of(other)(found));
-        let mut between = families[first.unwrap_or(0)..last.unwrap_or(0)].iter();
-        between.any(of(one))
+        let [own, others] = s.tables.map(|table| -> Vec<usize> {
+            let places = 0..families.len();
+            let of_family = |place: &usize| families[*place] == families[table];
+            places.filter(of_family).collect()
+        });
+        let between = others[0]..others[others.len() - 1];
+        own.iter().any(|place| between.contains(place))
     }),
     ("orphans kept before", |s| s.before.kept_sum() > 0),
     ("records used before", |s| s.before.used() > 0),

@@ -9,7 +9,7 @@ use crate::random::Random;
 /// How many calls are tried until one is accepted.
 const TRIES: usize = 3;
 
-/// A family's tables.
+/// Tables of a family.
 pub type Family = [usize];
 
 /// An area with rows in most tables, and at times with levels.
