@@ -7,7 +7,7 @@ use crate::engine::{Answer, Engine};
 use crate::model::area::Area;
 use crate::model::families::of_tables;
 use crate::model::schema::Schema;
-use crate::model::{change, search, statement, Model};
+use crate::model::{change, search, statement, transaction, Model};
 use std::ops::Range;
 
 pub const ALL: &[Mistake] = &[
@@ -96,45 +96,47 @@ pub const ALL: &[Mistake] = &[
             };
         },
     ),
+    (
+        "families: a commit looks at the family written last only",
+        |rules| {
+            rules.commits =
+                |area| newest_family(area).map_or(true, |family| kept_for(area, family) == 0);
+        },
+    ),
+    (
+        "families: a level saves the numbers of the family written last only",
+        |rules| {
+            rules.open = |area, opened_by| {
+                transaction::open(area, opened_by);
+                let (newest, families) = (newest_family(area), of_tables(area.schema));
+                let schema = area.schema;
+                let saved = &mut area.level_mut(area.open())[1..];
+                for (number, key) in saved.iter_mut().zip(&schema.keys) {
+                    if newest.map_or(false, |family| family != families[key.child]) {
+                        *number = 0;
+                    }
+                }
+            };
+        },
+    ),
 ];
 
-/// Engines whose rollbacks undo the families unequally.
+/// Engines whose rollbacks to a level undo the families unequally.
 pub fn of_rollbacks() -> Vec<Named> {
     vec![
         with_calls(
-            "families: a rollback to a level leaves the rows of the family written first",
-            |model, schema, area, call| {
-                rolled_back(
-                    model,
-                    (schema, area, call),
-                    |before, family, undone, after| {
-                        let places = undone.filter_map(|record| before.journal_place(record));
-                        let families = of_tables(before.schema);
-                        for (table, row) in places.filter(|&(table, _)| families[table] == family) {
-                            after.put_row(table, row, before.row(table, row).as_ref());
-                        }
-                    },
-                )
-            },
+            "families: a rollback leaves the rows of the family written first",
+            |model, schema, area, call| rolled_back(model, (schema, area, call), leave_rows),
         ),
         with_calls(
-            "families: a rollback to a level keeps the numbers of the family written first",
-            |model, schema, area, call| {
-                rolled_back(model, (schema, area, call), |before, family, _, after| {
-                    let families = of_tables(before.schema);
-                    for (number, key) in before.schema.keys.iter().enumerate() {
-                        if families[key.child] == family {
-                            after.kept_mut()[number] = before.kept()[number];
-                        }
-                    }
-                })
-            },
+            "families: a rollback keeps the numbers of the family written first",
+            |model, schema, area, call| rolled_back(model, (schema, area, call), keep_numbers),
         ),
     ]
 }
 
-/// What is put right: the area before the rollback, the family of the first record undone, the records
-/// undone, and the area after it.
+/// Spoils the area after a rollback, given the area before it, the family of the first record undone and
+/// the records undone.
 type Spoil = fn(&Area, usize, Range<usize>, &mut Area);
 
 /// The call by the model. A rollback to a level that undoes more than one family is then spoiled.
@@ -152,14 +154,33 @@ fn rolled_back(
             words: words.to_vec(),
         });
         let undone = after.used()..before.used();
-        let first = family_of(&before, undone.start);
         let mut families = undone.clone().map(|record| family_of(&before, record));
+        let first = families.next().flatten();
         if let Some(family) = first.filter(|_| families.any(|family| family != first)) {
             spoil(&before, family, undone, &mut after);
             area.copy_from_slice(&after.words);
         }
     }
     answer
+}
+
+/// The rows of the family are left as they were before the rollback.
+fn leave_rows(before: &Area, family: usize, undone: Range<usize>, after: &mut Area) {
+    let families = of_tables(before.schema);
+    let places = undone.filter_map(|record| before.journal_place(record));
+    for (table, row) in places.filter(|&(table, _)| families[table] == family) {
+        after.put_row(table, row, before.row(table, row).as_ref());
+    }
+}
+
+/// The kept numbers of the family are left as they were before the rollback.
+fn keep_numbers(before: &Area, family: usize, _: Range<usize>, after: &mut Area) {
+    let families = of_tables(before.schema);
+    for (number, key) in before.schema.keys.iter().enumerate() {
+        if families[key.child] == family {
+            after.kept_mut()[number] = before.kept()[number];
+        }
+    }
 }
 
 /// The family of the row that a journal record names.

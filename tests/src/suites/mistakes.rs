@@ -46,6 +46,10 @@ const PARTS: &[Part] = &[
     ("half-filled keys", |engine, r| {
         caught_on(&half_filled::SORT, 60, engine, r)
     }),
+    ("calls in either order", |engine, r| {
+        let mut orders = EitherOrder::default();
+        (0..8).any(|_| orders.trial(engine, r).is_err())
+    }),
     ("folded columns", |engine, r| {
         caught_on(&folded::SORT, 60, engine, r)
     }),
@@ -72,10 +76,6 @@ const PARTS: &[Part] = &[
             every.windows(engine),
         ];
         outcomes.iter().any(|outcome| outcome.is_err())
-    }),
-    ("calls in either order", |engine, r| {
-        let mut orders = EitherOrder::default();
-        (0..12).any(|_| orders.trial(engine, r).is_err())
     }),
     ("lists replayed", |engine, r| {
         let mut replay = Replay::new();
