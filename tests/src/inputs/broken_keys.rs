@@ -52,7 +52,7 @@ fn yard(r: &mut Random) -> Ground {
 }
 
 /// c0 is a unique key, and sometimes c3 or both together; c1 and c2 refer to other tables.
-fn table(r: &mut Random, values: &[i64]) -> Table {
+pub fn table(r: &mut Random, values: &[i64]) -> Table {
     let unique = r.pick(&[[1, 0], [1, 0], [1, 8], [1, 9], [9, 1]]);
     let used = unique.iter().take_while(|&&mask| mask != 0).count();
     let mut table = build::table(r.pick(&[3, 4, 6]), 4, &unique[..used]);
@@ -63,7 +63,7 @@ fn table(r: &mut Random, values: &[i64]) -> Table {
 }
 
 /// A foreign key from c1 or c2 to c0.
-fn key(r: &mut Random, child: u8, parent: u8) -> Key {
+pub fn key(r: &mut Random, child: u8, parent: u8) -> Key {
     let mut action = || r.pick(&[0, 1, 2, 3, 4, 4, 4]);
     let actions = (action(), action());
     let column = r.between(1, 2) as u8;

@@ -31,7 +31,7 @@ pub fn ground(r: &mut Random) -> Ground {
     }
     values.sort_unstable();
     values.dedup();
-    let room = r.pick(&[2, 3, 4, 6, 8, 12, 20, 40, 40, 60, 60]);
+    let room = r.pick(&[2, 4, 6, 8, 12, 20, 40, 40, 60, 60, 100]);
     let records = Records::new(room, tables, keys);
     Ground::new(in_any_order(r, records), values).folded_once_in(r, 4)
 }
@@ -42,8 +42,23 @@ fn yard(r: &mut Random) -> Ground {
         0 | 1 => windows::ground(r),
         2 => broken_keys::ground(r),
         3 => herds::whole(r),
+        4..=6 => linked(r),
         _ => grounds::whole_collisions(r),
     }
+}
+
+/// Two to four tables, each of which but the first refers to one before it.
+fn linked(r: &mut Random) -> Ground {
+    let values: Vec<i64> = (0..=r.between(3, 6) as i64).collect();
+    let count = r.between(2, 4) as u8;
+    let tables = (0..count).map(|_| broken_keys::table(r, &values));
+    let tables = tables.collect();
+    let mut keys = Vec::new();
+    for child in 1..count {
+        let parent = r.between(0, usize::from(child) - 1) as u8;
+        keys.push(broken_keys::key(r, child, parent));
+    }
+    Ground::new(Records::new(1, tables, keys), values)
 }
 
 /// The key with its tables numbered otherwise.
@@ -55,7 +70,7 @@ fn renumbered(key: &Key, number: impl Fn(u8) -> u8) -> Key {
     }
 }
 
-/// Adds a table that refers to some table by a whole key, and to some other by a broken one.
+/// Adds a table that refers to some table by a whole key, and to one, mostly another, by a broken key.
 fn add_readings(r: &mut Random, tables: &mut Vec<Table>, keys: &mut Vec<Key>) {
     let (own, parents) = (tables.len(), valid::parents(tables));
     let other = r.between(0, own - 1) as u8;
@@ -91,8 +106,8 @@ pub fn call(r: &mut Random, ground: &Ground, area: &Area, tables: &[usize]) -> V
     let call = match r.between(0, 15) {
         0..=3 => inserted(r, ground, area, table),
         4..=6 => changed(r, ground, area, table),
-        7 | 8 => deleted(r, area, table),
-        9..=12 => on_parent(r, ground, area, tables),
+        7 => deleted(r, area, table),
+        8..=12 => on_parent(r, ground, area, tables),
         _ => None,
     };
     call.unwrap_or_else(|| searches::of_table(r, ground, area, table).words())

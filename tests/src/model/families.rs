@@ -19,11 +19,8 @@ pub fn all(schema: &Schema) -> Vec<Vec<usize>> {
     let families = of_tables(schema);
     let tables = 0..families.len();
     let of = |family: usize| tables.clone().filter(|&t| families[t] == family).collect();
-    tables
-        .clone()
-        .map(of)
-        .filter(|f: &Vec<usize>| !f.is_empty())
-        .collect()
+    let lowest = tables.clone().filter(|&table| families[table] == table);
+    lowest.map(of).collect()
 }
 
 /// Whether a broken key stands between two families, each told by one of its tables.

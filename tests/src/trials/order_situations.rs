@@ -10,25 +10,39 @@ use crate::model::schema::{Key, Match};
 
 pub struct Seen<'a> {
     before: Area<'a>,
-    /// The tables that the calls name.
+    after: Area<'a>,
+    /// The kinds of the calls, and the tables that they name.
+    kinds: [i64; 2],
     tables: [usize; 2],
     answers: [Answer; 2],
-    /// How many journal records are used after both.
-    used: usize,
 }
 
 impl<'a> Seen<'a> {
     pub fn new(ground: &'a Ground, pair: &Pair) -> Seen<'a> {
         Seen {
             before: ground.area(pair.before),
+            after: ground.area(&pair.after),
+            kinds: pair.calls.map(|call| call[0]),
             tables: pair.calls.map(|call| call[1] as usize),
             answers: pair.answers,
-            used: pair.after[2] as usize,
         }
     }
 
     fn both(&self, such: fn(&Answer) -> bool) -> bool {
         self.answers.iter().all(such)
+    }
+
+    /// Whether each call changed rows of another table than the one that it names.
+    fn both_reach_others(&self) -> bool {
+        let table_of = |record: usize| self.after.journal_place(record).map(|place| place.0);
+        let mut records = self.before.used()..self.after.used();
+        let mut reaches = |call: usize| {
+            let own = records.by_ref().take(self.answers[call].changed as usize);
+            let others = own.filter(|&record| table_of(record) != Some(self.tables[call]));
+            others.count() > 0
+        };
+        let reached = [reaches(0), reaches(1)];
+        reached == [true, true]
     }
 
     /// Whether the family of each call has such a key, not a broken one.
@@ -51,6 +65,13 @@ pub const SITUATIONS: &[Situation] = &[
     ("several rows changed by both", |s| {
         s.both(|answer| answer.changed > 1)
     }),
+    (
+        "several rows changed by both, each by one row's actions",
+        |s| s.both(|answer| answer.changed > 1) && s.kinds.iter().all(|&kind| kind <= 3),
+    ),
+    ("rows of other tables changed by both", |s| {
+        s.both_reach_others()
+    }),
     ("kept numbers moved by both", |s| {
         s.both(|answer| answer.net != 0)
     }),
@@ -61,7 +82,7 @@ pub const SITUATIONS: &[Situation] = &[
         !s.both(|answer| answer.changed > 0)
     }),
     ("the journal full after both", |s| {
-        s.used == s.before.schema.room && s.both(|answer| answer.changed > 0)
+        s.after.used() == s.before.schema.room && s.both(|answer| answer.changed > 0)
     }),
     ("a broken key between the families", |s| {
         broken_key_between(s.before.schema, s.tables[0], s.tables[1])
