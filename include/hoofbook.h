@@ -114,7 +114,13 @@ int64_t hoofbook_make_fresh(const uint8_t *schema, size_t schema_len, int64_t *a
 
 /* Carries out a call of twelve words, of one of the eleven kinds, or refuses it. Kinds 10 and 11 go by rising
  * row number and judge each row at its turn, by 14 to 18, 23 and 24; 20 is judged once, after the last row. One
- * refused row refuses the whole call; finding no row is no cause to refuse. */
+ * refused row refuses the whole call; finding no row is no cause to refuse.
+ *
+ * Tables that foreign keys join, directly or through others, are a family; a broken key joins none. In an area made
+ * fresh and since written by calls alone, two calls of kinds 1, 2, 3, 10 or 11 on different families that are accepted
+ * one after the other in one open transaction are accepted in the other order too, with the same answers, rows and
+ * kept numbers; only the journal records may stand otherwise. An accepted rollback to a level opened before both gives
+ * the same area, and whatever calls follow both get the same answers. */
 hoofbook_answer hoofbook_call(const uint8_t *schema, size_t schema_len, int64_t *area, size_t area_len,
                               const int64_t *call, size_t call_len);
 
