@@ -19,6 +19,7 @@ from booktext.writer import text_of
 from tooltests.bounds import check_bounds
 from tooltests.broken_keys import check_broken_keys
 from tooltests.checks import Checks, tool
+from tooltests.families import check_families
 from tooltests.folded import check_folded
 from tooltests.half_drawn import check_half_drawn
 from tooltests.hoofask import check_build, check_hoofask
@@ -246,8 +247,8 @@ def main():
     for run in (
         check_build, check_encoding, check_round_trips, check_mistakes, check_many_rows, check_matches,
         check_half_drawn, check_broken_keys, check_names, check_folded, check_windows,
-        check_window_books, check_runs, check_hoofask, check_orphans, check_bounds, check_commands,
-        check_command_faults, check_blocks,
+        check_window_books, check_runs, check_hoofask, check_orphans, check_bounds, check_families,
+        check_commands, check_command_faults, check_blocks,
     ):
         try:
             run(checks)
