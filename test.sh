@@ -63,13 +63,13 @@ rt staticlib capi || stop "rt staticlib capi failed: the tests were not run"
 
 export CARGO_TARGET_DIR=$PWD/target/tests CARGO_HOME=$PWD/target/tests/home
 (cd tests && cargo build --release --offline --locked) || stop "the tests were not built"
-# The suite of mistaken engines takes as long as all others: it runs beside them.
+# The suite of mistaken engines takes as long as all else that follows: it runs beside it.
 target/tests/release/hoofbook-tests mistakes >"$beside" 2>&1 &
 counted target/tests/release/hoofbook-tests -mistakes || stop "the tests failed"
-wait
-counted cat "$beside" || stop "the tests of mistaken engines failed"
 counted examples/test_kit.sh || stop "the example failed as C or as C++"
 counted python3 tools/test_tools.py || stop "the tests of the tools failed"
+wait
+counted cat "$beside" || stop "the tests of mistaken engines failed"
 
 [ "$failed" -eq 0 ] || stop "something failed"
 echo "$passed passed, $failed failed"
