@@ -2,7 +2,7 @@
 -- Assumes nothing.
 use mathlib.Core.Path.{_≡_, refl, sym, _∙_, ap, subst}
 use mathlib.Core.Bool.{Bool, true, false, _&&_, false≢true}
-use mathlib.Core.List.{List, [], _∷_}
+use mathlib.Core.List.{List}
 use mathlib.Core.Logic.{inl, inr}
 use Prim.Native.Nat.{ℕ}
 use lib.Dec.{eqb}
@@ -13,7 +13,7 @@ use Rattle.schema.specs.Records.{Schema}
 use Rattle.rules.specs.Lists.{𝟘}
 use Rattle.rules.specs.Values.{natOf, natural}
 use Rattle.rules.specs.Calls.{Call, insert, update, delete, rollbackTo, rollback, deleteWhere, updateWhere, formedIf, parsed, parse, allowed}
-use Rattle.families.specs.Families.{OnTable}
+use Rattle.families.specs.Families.{rowKinds, OnTable}
 
 -- the calls that change rows of table t; actions may then change rows of others
 pub data ChangesRows : ℕ → Call → Type 0 where
@@ -75,7 +75,7 @@ module _ (s : Schema) (ws : List ℤ) (h : allowed s (parse ws) ≡ true) where
       of : {c : Call} → parse ws ≡ c → ChangesRows (natOf (getD ws 1 𝟘)) c → ChangesRows t (parse ws)
       of e r = subst (λ t. ChangesRows t (parse ws)) (ap natOf (o .table)) (subst (ChangesRows (natOf (getD ws 1 𝟘))) (sym e) r)
 
-      by : Mem (getD ws 0 𝟘) (pos 1 ∷ pos 2 ∷ pos 3 ∷ pos 10 ∷ pos 11 ∷ []) → ChangesRows t (parse ws)
+      by : Mem (getD ws 0 𝟘) rowKinds → ChangesRows t (parse ws)
       by (inl e) = of (insert-is e) inserting
       by (inr (inl e)) = of (update-is e) updating
       by (inr (inr (inl e))) = of (delete-is e) deleting

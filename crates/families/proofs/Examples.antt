@@ -7,20 +7,21 @@ use mathlib.Core.Logic.{inl, inr}
 use Prim.Native.Nat.{ℕ, _/_}
 use native.Mathlib.Omega.{arith}
 use lib.IntN.{ℤ, pos, negsuc}
-use lib.ListN.{length, set}
+use lib.ListN.{length, getD, set}
 use Rattle.schema.specs.Bytes.{columnMask}
 use Rattle.schema.specs.Ranges.{allFrom, anyFrom, listFrom}
 use Rattle.schema.specs.ParentKey.{Mem}
 use Rattle.schema.specs.Records.{ForeignKey}
 use Rattle.schema.specs.Fields.{columnRule, uniqueIs, hasParentKey, hasEnd, isBroken, keyFrom, schemaOf}
 use Rattle.rules.specs.Refusals.{number, shown}
-use Rattle.rules.specs.Area.{freshWords}
+use Rattle.rules.specs.Lists.{𝟘, chunks}
+use Rattle.rules.specs.Area.{AreaTurn, freshWords}
 use Rattle.rules.specs.Strike.{endOf}
 use Rattle.rules.proofs.Inputs.{schemaBytes, tableBytes, keyBytes, insert, update, delete, begin, savepoint, rollbackTo, rollback, commit, updateWhere}
 use Rattle.rules.proofs.Computed.{onBook, onArea, ran, show, Shown, answers, sameArea}
 use Rattle.families.specs.Families.{Joined, Apart}
 use Rattle.families.specs.Families.Joined.{directly, turned, through}
-use Rattle.families.specs.EitherOrder.{OneAfterOther, EitherOrder}
+use Rattle.families.specs.EitherOrder.{usedWords, both, swapped, OneAfterOther, EitherOrder}
 use Rattle.families.proofs.FamilyLaws.{apart-by}
 use Rattle.families.proofs.EitherOrder.{either-order}
 
@@ -74,6 +75,9 @@ before =
     ∷ savepoint
     ∷ []
 
+unfoldable reached-area : List ℤ
+reached-area = endOf yards (freshWords (schemaOf yards)) before
+
 -- the horse is deleted, with its visit and trim; the sensor is renumbered, and its reading follows
 unfoldable call-c : List ℤ
 unfolding delete
@@ -97,6 +101,17 @@ d-then-c : answers onBook yards (before ++ (call-d ∷ call-c ∷ [])) ≡ start
 unfolding onBook answers yards before call-c call-d
 d-then-c = refl
 
+-- the rows that the records name, table × 1,024 + row, oldest first
+unfoldable places : List ℤ → List ℤ
+unfolding chunks
+places ws = map (λ r. getD r 0 𝟘) (chunks 10 5 ws)
+
+records-exchanged :
+    map (λ (t : AreaTurn). places (usedWords (schemaOf yards) (t .1))) (both yards reached-area call-c call-d ∷ swapped yards reached-area call-c call-d ∷ [])
+    ≡ (pos 0 ∷ pos 1024 ∷ pos 2048 ∷ pos 3072 ∷ pos 4096 ∷ []) ∷ (pos 3072 ∷ pos 4096 ∷ pos 0 ∷ pos 1024 ∷ pos 2048 ∷ []) ∷ []
+unfolding onArea ran reached-area yards before call-c call-d places
+records-exchanged = refl
+
 -- calls that follow both, and whether the areas of both orders are then the same in every word
 unfoldable follows : List (List (List ℤ))
 unfolding insert savepoint rollbackTo rollback commit
@@ -115,9 +130,6 @@ unfolding onBook sameArea yards before call-c call-d follows
 areas-after = refl
 
 -- the theorem is about them
-unfoldable reached-area : List ℤ
-reached-area = endOf yards (freshWords (schemaOf yards)) before
-
 yards-taken : OneAfterOther yards reached-area call-c call-d
 unfolding onArea ran reached-area yards before call-c call-d Mem
 yards-taken =

@@ -21,7 +21,11 @@ pub data Joined (s : Schema) : ℕ → ℕ → Type 0 where
 abbrev pub Apart : Schema → ℕ → ℕ → Type 0
 Apart s t u = ¬ (Joined s t u)
 
--- a call "of kinds 1, 2, 3, 10 or 11" on table t: word 1, "a is the table"
+-- "kinds 1, 2, 3, 10 or 11"
+abbrev pub rowKinds : List ℤ
+rowKinds = pos 1 ∷ pos 2 ∷ pos 3 ∷ pos 10 ∷ pos 11 ∷ []
+
+-- a call of one of these kinds on table t: word 1, "a is the table"
 pub record OnTable (t : ℕ) (call : List ℤ) : Type 0 where
-  pub kind : Mem (getD call 0 𝟘) (pos 1 ∷ pos 2 ∷ pos 3 ∷ pos 10 ∷ pos 11 ∷ [])
+  pub kind : Mem (getD call 0 𝟘) rowKinds
   pub table : getD call 1 𝟘 ≡ pos t

@@ -30,40 +30,40 @@ use Rattle.runs.specs.Runs.{least, callsRun, runCalls, answersWords}
 use Rattle.run_laws.specs.RunDemand.{RunDemand3}
 
 -- a call of twelve words
-unfoldable twelve : Logged → Bool
-twelve x = of-size 12 (x .0)
+unfoldable twelveWords : Logged → Bool
+twelveWords x = of-size 12 (x .0)
 
-place-twelve : (c : Call) (x : Logged) (k : Struck) → twelve x ≡ true → all twelve (k .line) ≡ true → all twelve (place c x k .line) ≡ true
+place-twelve : (c : Call) (x : Logged) (k : Struck) → twelveWords x ≡ true → all twelveWords (k .line) ≡ true → all twelveWords (place c x k .line) ≡ true
 unfolding place all
 place-twelve malformed x k t h = h
-place-twelve (insert a r m vs) x k t h = all-append twelve (k .line) (x ∷ []) h (all-cons twelve x [] t refl)
-place-twelve (update a r m vs) x k t h = all-append twelve (k .line) (x ∷ []) h (all-cons twelve x [] t refl)
-place-twelve (delete a r) x k t h = all-append twelve (k .line) (x ∷ []) h (all-cons twelve x [] t refl)
-place-twelve begin x k t h = all-append twelve (k .line) (x ∷ []) h (all-cons twelve x [] t refl)
-place-twelve savepoint x k t h = all-append twelve (k .line) (x ∷ []) h (all-cons twelve x [] t refl)
-place-twelve (release a) x k t h = all-append twelve (k .line) (x ∷ []) h (all-cons twelve x [] t refl)
-place-twelve (rollbackTo a) x k t h = all-take twelve (getD (drop (length (k .pile) - a) (k .pile)) 0 0) (k .line) h
-place-twelve rollback x k t h = all-take twelve (pred (getD (k .pile) (pred (length (k .pile))) 0)) (k .line) h
-place-twelve commit x k t h = all-append twelve (k .line) (x ∷ []) h (all-cons twelve x [] t refl)
-place-twelve (deleteWhere a c m v) x k t h = all-append twelve (k .line) (x ∷ []) h (all-cons twelve x [] t refl)
-place-twelve (updateWhere a c m v d y) x k t h = all-append twelve (k .line) (x ∷ []) h (all-cons twelve x [] t refl)
+place-twelve (insert a r m vs) x k t h = all-append twelveWords (k .line) (x ∷ []) h (all-cons twelveWords x [] t refl)
+place-twelve (update a r m vs) x k t h = all-append twelveWords (k .line) (x ∷ []) h (all-cons twelveWords x [] t refl)
+place-twelve (delete a r) x k t h = all-append twelveWords (k .line) (x ∷ []) h (all-cons twelveWords x [] t refl)
+place-twelve begin x k t h = all-append twelveWords (k .line) (x ∷ []) h (all-cons twelveWords x [] t refl)
+place-twelve savepoint x k t h = all-append twelveWords (k .line) (x ∷ []) h (all-cons twelveWords x [] t refl)
+place-twelve (release a) x k t h = all-append twelveWords (k .line) (x ∷ []) h (all-cons twelveWords x [] t refl)
+place-twelve (rollbackTo a) x k t h = all-take twelveWords (getD (drop (length (k .pile) - a) (k .pile)) 0 0) (k .line) h
+place-twelve rollback x k t h = all-take twelveWords (pred (getD (k .pile) (pred (length (k .pile))) 0)) (k .line) h
+place-twelve commit x k t h = all-append twelveWords (k .line) (x ∷ []) h (all-cons twelveWords x [] t refl)
+place-twelve (deleteWhere a c m v) x k t h = all-append twelveWords (k .line) (x ∷ []) h (all-cons twelveWords x [] t refl)
+place-twelve (updateWhere a c m v d y) x k t h = all-append twelveWords (k .line) (x ∷ []) h (all-cons twelveWords x [] t refl)
 
 -- only calls of twelve words come into the line
-mark-twelve : (ws : List ℤ) (a : Answer) (k : Struck) → all twelve (k .line) ≡ true → all twelve (mark (parse ws) ws a k .line) ≡ true
-unfolding mark parse formedIf place twelve
+mark-twelve : (ws : List ℤ) (a : Answer) (k : Struck) → all twelveWords (k .line) ≡ true → all twelveWords (mark (parse ws) ws a k .line) ≡ true
+unfolding mark parse formedIf place twelveWords
 mark-twelve ws (Refused r) k h = h
 mark-twelve ws (Done n d) k h = by (eqb (length ws) 12 && natural (getD ws 0 𝟘)) refl
   where
-    by : (t : Bool) → eqb (length ws) 12 && natural (getD ws 0 𝟘) ≡ t → all twelve (place (formedIf t (parsed (natOf (getD ws 0 𝟘)) ws)) (ws, Done n d) k .line) ≡ true
+    by : (t : Bool) → eqb (length ws) 12 && natural (getD ws 0 𝟘) ≡ t → all twelveWords (place (formedIf t (parsed (natOf (getD ws 0 𝟘)) ws)) (ws, Done n d) k .line) ≡ true
     by true e = place-twelve (parsed (natOf (getD ws 0 𝟘)) ws) (ws, Done n d) k (and-left (eqb (length ws) 12) (natural (getD ws 0 𝟘)) e) h
     by false e = h
 
-marks-twelve : (log : List Logged) (k : Struck) → all twelve (k .line) ≡ true → all twelve (marks log k .line) ≡ true
+marks-twelve : (log : List Logged) (k : Struck) → all twelveWords (k .line) ≡ true → all twelveWords (marks log k .line) ≡ true
 unfolding marks
 marks-twelve [] k h = h
 marks-twelve (x ∷ log) k h = marks-twelve log _ (mark-twelve (x .0) (x .1) k h)
 
-left-twelve : (log : List Logged) → all twelve (strike log .line) ≡ true
+left-twelve : (log : List Logged) → all twelveWords (strike log .line) ≡ true
 unfolding strike all
 left-twelve log = marks-twelve log _ refl
 
@@ -85,9 +85,9 @@ module _ (bs : List ℕ) (cs : List (List ℤ)) (sized : all (of-size 12) cs ≡
   unfolding runCalls
   run-laid = rw (count-is, chunks-flat 12 cs sized) refl
 
-calls-sized : (log : List Logged) → all twelve log ≡ true → all (of-size 12) (callsOf log) ≡ true
-unfolding callsOf twelve
-calls-sized log sized = all-map twelve (of-size 12) (λ x. x .0) (λ x h. h) log sized
+calls-sized : (log : List Logged) → all twelveWords log ≡ true → all (of-size 12) (callsOf log) ≡ true
+unfolding callsOf twelveWords
+calls-sized log sized = all-map twelveWords (of-size 12) (λ x. x .0) (λ x h. h) log sized
 
 calls-count : (log : List Logged) → length (callsOf log) ≡ length log
 unfolding callsOf
@@ -104,7 +104,7 @@ module _ (bs : List ℕ) (acc : checkSchema bs ≡ Accepted) (calls answers : Li
       record {
         demand = demand-of;
         again = λ left e answers′ room.
-            let sized : all twelve left ≡ true = ap (all twelve) e ∙ left-twelve _ in
+            let sized : all twelveWords left ≡ true = ap (all twelveWords) e ∙ left-twelve _ in
             let end : List ℤ = endOf bs (freshWords (schemaOf bs)) (chunks 12 (callsRun (length calls) (length answers)) calls) in
             let same : runOn bs (callsOf left) (freshWords (schemaOf bs)) ≡ (left, end)
             = ap (λ l. runOn bs (callsOf l) (freshWords (schemaOf bs))) e ∙ demand-of .same ∙ ap (λ l. (l, end)) (sym e) in
