@@ -15,7 +15,7 @@ ghost use Rattle.call_form.specs.Requests.{call_of, judged, TwelveWords, names_r
 use schema::SchemaAnswer;
 
 // What a call asks for: tables, rows, columns and levels by number; masks and values stay in the call's words.
-#[derive(Drop)]
+#[derive(Clone, Copy)]
 pub enum Request {
     // Refusal 4.
     Malformed,

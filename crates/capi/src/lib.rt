@@ -14,7 +14,7 @@ use rules::{Listed, Numbered, Orphan};
 
 // The answer to a call.
 #[repr(C)]
-#[derive(Drop)]
+#[derive(Clone, Copy)]
 pub struct CallAnswer {
     pub code: i64,
     pub changed: i64,

@@ -28,7 +28,7 @@ use windows::WindowKey;
 // What the child rows of a foreign key are gone through by: their table and where they stand, the old parent key in their
 // columns, folded where it is compared so, the parent columns and the action. It is read once, before the first of them is
 // looked at.
-#[derive(Drop)]
+#[derive(Clone, Copy)]
 pub struct Followers {
     pub table: usize,
     pub rows: TableRows,

@@ -18,7 +18,7 @@ use rows::{SoughtKey, TableRows};
 use schema::SchemaAnswer;
 
 // A column and what it holds: NULL, or a value.
-#[derive(Drop)]
+#[derive(Clone, Copy)]
 pub struct Cell {
     pub column: usize,
     pub null: bool,
@@ -27,7 +27,7 @@ pub struct Cell {
 
 // What the rows of a table are searched by: where they stand, whether NULL is sought, and the column and its value as a key.
 // It is made once, before the first row is looked at.
-#[derive(Drop)]
+#[derive(Clone, Copy)]
 pub struct Seeking {
     pub rows: TableRows,
     pub null: bool,
@@ -35,7 +35,7 @@ pub struct Seeking {
 }
 
 // What becomes of a row that is found: it is deleted, or one column is set.
-#[derive(Drop)]
+#[derive(Clone, Copy)]
 pub enum Given {
     Deleted,
     Set(Cell),

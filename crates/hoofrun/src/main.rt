@@ -12,7 +12,7 @@ use rules::Answer;
 use run_tally::Tally;
 
 // A piece of the input: how many bytes were read, and the tally after it.
-#[derive(Drop)]
+#[derive(Clone, Copy)]
 struct Piece {
     read: usize,
     tally: Tally,

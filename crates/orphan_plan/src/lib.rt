@@ -14,7 +14,7 @@ use orphan_scan::Cursor;
 use rules::{Listed, Refusal, Verdict};
 
 // The answer, and where the search stands: while the list is written, behind the last orphan found.
-#[derive(Drop)]
+#[derive(Clone, Copy)]
 pub struct Plan {
     pub answer: Listed,
     pub at: Cursor,

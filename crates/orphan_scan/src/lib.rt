@@ -14,7 +14,7 @@ use rules::Orphan;
 use schema::SchemaAnswer;
 
 // Where the search stands: its foreign key and the row of the last orphan found, if one was; the child row to go on with; the rows and columns of the foreign key.
-#[derive(Drop)]
+#[derive(Clone, Copy)]
 pub struct Cursor {
     pub orphan: Orphan,
     pub from: usize,

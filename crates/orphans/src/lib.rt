@@ -19,7 +19,7 @@ use windows::WindowKey;
 
 // The child rows of a foreign key, its parent rows and its columns: its pairs, whether it has a window (1, else 0), and then the
 // columns of the day and of the first day.
-#[derive(Drop)]
+#[derive(Clone, Copy)]
 pub struct KeyRows {
     pub children: TableRows,
     pub parents: TableRows,

@@ -11,14 +11,14 @@ use rules::Answer;
 use run_tally::Tally;
 
 // How far a run has come: its tally, and how many bytes of the output buffer hold text.
-#[derive(Drop)]
+#[derive(Clone, Copy)]
 pub struct Progress {
     pub tally: Tally,
     pub used: usize,
 }
 
 // An answer's code, rows changed and net.
-#[derive(Drop)]
+#[derive(Clone, Copy)]
 struct Figures {
     code: u64,
     changed: u64,

@@ -23,7 +23,7 @@ ghost use Rattle.rows.specs.Sought.{sought_folds, sought_columns, sought_values,
 use schema::SchemaAnswer;
 
 // The rows of a table: their first word, the words of a row, how many there are.
-#[derive(Drop)]
+#[derive(Clone, Copy)]
 pub struct TableRows {
     pub start: usize,
     pub width: usize,
@@ -31,7 +31,7 @@ pub struct TableRows {
 }
 
 // The column pairs of a foreign key: n of them, which are folded (bit i for pair i), the child columns and the parent columns.
-#[derive(Drop)]
+#[derive(Clone, Copy)]
 pub struct KeyPairs {
     pub n: usize,
     pub folded: usize,
@@ -41,7 +41,7 @@ pub struct KeyPairs {
 
 // A sought key: its n columns in the rows that are searched, which of them are compared folded (bit i for the column of
 // place i), and the values that they must have, as they are compared: folded there. None of them is NULL.
-#[derive(Drop)]
+#[derive(Clone, Copy)]
 pub struct SoughtKey {
     pub n: usize,
     pub folded: usize,

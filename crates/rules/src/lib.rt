@@ -3,7 +3,7 @@
 #![tactic(auto)]
 
 // Why a call is refused. The definition `number` gives the paper's numbers.
-#[derive(Drop)]
+#[derive(Clone, Copy)]
 pub enum Refusal {
     // 1: schema bytes break a rule.
     SchemaMalformed,
@@ -44,14 +44,14 @@ pub enum Refusal {
 }
 
 // Whether checks pass, or which one refuses.
-#[derive(Drop)]
+#[derive(Clone, Copy)]
 pub enum Verdict {
     Pass,
     Fail(Refusal),
 }
 
 // The answer to a call: rows changed and net change in all kept orphans, or a refusal.
-#[derive(Drop)]
+#[derive(Clone, Copy)]
 pub enum Answer {
     Done(usize, i64),
     Refused(Refusal),
@@ -59,7 +59,7 @@ pub enum Answer {
 
 // A record of the orphan list: a foreign key and a row of its child table.
 #[repr(C)]
-#[derive(Drop)]
+#[derive(Clone, Copy)]
 pub struct Orphan {
     pub key: usize,
     pub row: usize,
@@ -67,7 +67,7 @@ pub struct Orphan {
 
 // The answer of the orphan list: the paper's code, and how many orphans there are.
 #[repr(C)]
-#[derive(Drop)]
+#[derive(Clone, Copy)]
 pub struct Listed {
     pub code: i64,
     pub count: usize,
@@ -75,7 +75,7 @@ pub struct Listed {
 
 // The answer of a question that asks for one number: the paper's code, and the number.
 #[repr(C)]
-#[derive(Drop)]
+#[derive(Clone, Copy)]
 pub struct Numbered {
     pub code: i64,
     pub number: i64,

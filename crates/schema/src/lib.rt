@@ -3,7 +3,7 @@
 #![tactic(auto)]
 
 // What follows a deletion or a change of a parent key.
-#[derive(Drop)]
+#[derive(Clone, Copy)]
 pub enum Action {
     NoAction,
     Restrict,
@@ -13,14 +13,14 @@ pub enum Action {
 }
 
 // What NULL in a child key means. Simple: the row needs no parent. Full: all columns are NULL or none.
-#[derive(Drop)]
+#[derive(Clone, Copy)]
 pub enum Match {
     Simple,
     Full,
 }
 
 // What the check of schema bytes finds.
-#[derive(Drop)]
+#[derive(Clone, Copy)]
 pub enum SchemaAnswer {
     Accepted,
     // Refusal 1: the bytes break a rule.

@@ -11,7 +11,7 @@ ghost use Rattle.skips.specs.Skipped.{first_words, has_word, alike, masked_word,
 use rows::{SoughtKey, TableRows};
 
 // Two words that a row must have: word c is v, word d is u.
-#[derive(Drop)]
+#[derive(Clone, Copy)]
 pub struct TwoWords {
     pub c: usize,
     pub v: i64,
@@ -20,7 +20,7 @@ pub struct TwoWords {
 }
 
 // A word under a mask that a row must have: word c under mask m is v.
-#[derive(Drop)]
+#[derive(Clone, Copy)]
 pub struct MaskedWord {
     pub c: usize,
     pub m: i64,
@@ -28,7 +28,7 @@ pub struct MaskedWord {
 }
 
 // Two of them.
-#[derive(Drop)]
+#[derive(Clone, Copy)]
 pub struct MaskedPair {
     pub first: MaskedWord,
     pub second: MaskedWord,

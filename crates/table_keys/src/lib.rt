@@ -14,7 +14,7 @@ use schema::SchemaAnswer;
 
 // The foreign keys whose child or parent a table is, as masks of their numbers: those that are not broken, of these the ones
 // with a window, and the broken ones.
-#[derive(Drop)]
+#[derive(Clone, Copy)]
 pub struct TableKeys {
     pub whole: usize,
     pub windowed: usize,

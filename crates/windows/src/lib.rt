@@ -19,7 +19,7 @@ use rows::{KeyPairs, SoughtKey, TableRows};
 
 // What the days of a sought row must be, beside its key: the day in a column is in the window from a first day to an end; the
 // window whose first day stands in a column, and whose end in the next, holds a day; or it shares a day with a window.
-#[derive(Drop)]
+#[derive(Clone, Copy)]
 pub enum Days {
     Within(usize, i64, i64),
     Holding(usize, i64),
@@ -28,7 +28,7 @@ pub enum Days {
 
 // The columns of a key with a window: its pairs, the child column of the day, and the parent column of the first day; the end
 // stands in the next.
-#[derive(Drop)]
+#[derive(Clone, Copy)]
 pub struct WindowKey {
     pub pairs: KeyPairs,
     pub day: usize,

@@ -1,9 +1,0 @@
-pub mod Bounds
-pub mod Ranges
-pub mod Bytes
-pub mod Marks
-pub mod Records
-pub mod Fields
-pub mod Check
-pub mod Sizes
-pub mod ParentKey
