@@ -1,0 +1,24 @@
+use borrow.Author.Rules.{rules}
+use mathlib.Core.Path.{◌≡◌, refl, sym, ◌∙◌}
+use Prim.Native.Nat.{suc, ◌-◌}
+use native.Mathlib.Omega.{arith}
+use lib.IntN.{pos}
+use lib.ListN.{length, get_or}
+use Rattle.schema.specs.Fields.{schema_of}
+use Rattle.rules.specs.Book.{undo_to}
+use Rattle.rules.specs.Values.{nat_of}
+use Rattle.bridge.specs.Fit.{work_of, Keeps}
+use Rattle.bridge.specs.Ready.{Undoable}
+use Rattle.bridge.proofs.RowWords.{keeps_refl, keeps_trans}
+use Rattle.area.proofs.Places.{area_long}
+use Rattle.area.proofs.Journal.{undoable_less, use_less, undo_again, undo_end}
+use Rattle.area.proofs.undo_to.Given as goal
+
+abbrev pub invariant-loop-used : goal.invariant-loop-used
+invariant-loop-used l = (length l.area ≡ length l.initial.area)
+    × (Keeps (schema_of l.schema) l.initial.area l.area
+    × (Undoable l.schema l.area
+    × ((l.used ≡ nat_of (get_or l.area 2 (pos 0))) × (undo_to l.to (work_of (schema_of l.schema) l.initial.area) ≡ undo_to l.to (work_of (schema_of l.schema) l.area)))))
+
+abbrev pub decreases-loop-used : goal.decreases-loop-used
+decreases-loop-used l = l.used

@@ -1,0 +1,17 @@
+use mathlib.Core.Path.{◌≡◌, sym, ap, ap₂, ◌∙◌}
+use Prim.Native.Nat.{◌-◌, ◌≤◌}
+use native.Mathlib.Omega.{arith}
+use borrow.Author.Rules.{rules}
+use lib.IntN.{pos}
+use lib.ListN.{get_or}
+use Rattle.rules.specs.Values.{nat_of}
+use Rattle.rules.specs.State.{uses_rise}
+use Rattle.area_form.specs.Damage.{lowest_levels}
+use Rattle.area_form.proofs.DamageLaws.{rise_none, rise_stop, rise_go}
+use Rattle.area_form.proofs.uses_rise.Given as goal
+
+abbrev pub invariant-loop-i : goal.invariant-loop-i
+invariant-loop-i l = (l.i ≤ 9) × (uses_rise (nat_of (get_or l.area 2 (pos 0))) (lowest_levels (nat_of (get_or l.area 0 (pos 0))) l.area) ≡ uses_rise l.above (lowest_levels l.i l.area))
+
+abbrev pub decreases-loop-i : goal.decreases-loop-i
+decreases-loop-i l = l.i

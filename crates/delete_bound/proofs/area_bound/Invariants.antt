@@ -1,0 +1,15 @@
+use mathlib.Core.Path.{◌≡◌, ◌∙◌}
+use Prim.Native.Nat.{◌+◌, ◌*◌, ◌-◌, ◌≤◌}
+use native.Mathlib.Nat.{zero-add}
+use native.Mathlib.Omega.{arith}
+use borrow.Author.Rules.{rules}
+use Rattle.schema.specs.Fields.{schema_of}
+use Rattle.rules.specs.DeleteBound.{area_bound}
+use Rattle.delete_bound.proofs.TableBounds.{tables_left, all_left, tables_none, tables_more}
+use Rattle.delete_bound.proofs.area_bound.Given as goal
+
+abbrev pub invariant-loop-t : goal.invariant-loop-t
+invariant-loop-t l = (l.t ≤ l.n) × ((l.bound ≤ l.t * 9216) × (l.bound + tables_left l.schema l.area l.t ≡ area_bound (schema_of l.schema) l.area))
+
+abbrev pub decreases-loop-t : goal.decreases-loop-t
+decreases-loop-t l = l.n - l.t

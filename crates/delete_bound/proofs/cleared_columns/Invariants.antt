@@ -1,0 +1,19 @@
+use mathlib.Core.Path.{◌≡◌}
+use Prim.Native.Nat.{ℕ, ◌-◌, ◌^◌, ◌≤◌}
+use native.Mathlib.Nat.{lt_of_lt_of_le}
+use native.Mathlib.Omega.{arith}
+use borrow.Author.Rules.{rules}
+use lib.Pow.{pow_mono}
+use Rattle.schema.specs.Marks.{Marks}
+use Rattle.schema.specs.Records.{table_of}
+use Rattle.schema.specs.Fields.{schema_of}
+use Rattle.schema.proofs.MaskLaws.{marks_start, marks_more}
+use Rattle.rules.specs.Lists.{any}
+use Rattle.rules.specs.DeleteBound.{clears}
+use Rattle.delete_bound.proofs.cleared_columns.Given as goal
+
+abbrev pub invariant-loop-c : goal.invariant-loop-c
+invariant-loop-c l = (l.c ≤ l.n) × Marks (λ (i : ℕ). any (clears l.t i) (schema_of l.schema).keys) l.c l.cleared
+
+abbrev pub decreases-loop-c : goal.decreases-loop-c
+decreases-loop-c l = l.n - l.c

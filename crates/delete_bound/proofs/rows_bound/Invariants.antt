@@ -1,0 +1,14 @@
+use mathlib.Core.Path.{◌≡◌}
+use Prim.Native.Nat.{◌+◌, ◌*◌, ◌-◌, ◌≤◌}
+use native.Mathlib.Nat.{zero-add}
+use native.Mathlib.Omega.{arith}
+use borrow.Author.Rules.{rules}
+use Rattle.rows.proofs.TableLaws.{standing}
+use Rattle.delete_bound.proofs.TableBounds.{rows_left, left_none, left_more, row_here}
+use Rattle.delete_bound.proofs.rows_bound.Given as goal
+
+abbrev pub invariant-loop-j : goal.invariant-loop-j
+invariant-loop-j l = (l.j ≤ l.count) × ((l.bound ≤ l.j * 9) × (l.bound + rows_left l.schema l.area l.t l.j ≡ rows_left l.schema l.area l.t 0))
+
+abbrev pub decreases-loop-j : goal.decreases-loop-j
+decreases-loop-j l = l.count - l.j

@@ -1,0 +1,7 @@
+use native.Mathlib.Omega.{arith}
+use Rattle.schema.proofs.SizeLaws.{size_all}
+use borrow.Author.Rules.{rules}
+use Rattle.fields.proofs.area_length.Goals as goal
+
+pub returns : goal.returns
+returns c = (size_all _ c.journal_start.ensures.0 c.room.ensures.0, omega arith)

@@ -1,0 +1,16 @@
+use mathlib.Core.Path.{◌≡◌, refl, sym, ap, ◌∙◌}
+use Prim.Native.Nat.{ℕ, ◌-◌, ◌≤◌}
+use native.Mathlib.Omega.{arith}
+use borrow.Author.Rules.{rules}
+use lib.Dec.{eqb}
+use Rattle.schema.specs.Ranges.{any_from}
+use Rattle.schema.specs.Fields
+use Rattle.schema.proofs.RangeLaws.{any_none, any_stop, any_go}
+use Rattle.schema.proofs.FieldLaws.{read_unique}
+use Rattle.fields.proofs.has_unique.Given as goal
+
+abbrev pub invariant-loop-i : goal.invariant-loop-i
+invariant-loop-i l = (l.i ≤ 4) × (any_from (λ i. eqb (Fields.unique_of l.bytes l.t i) l.m) 4 0 ≡ any_from (λ i. eqb (Fields.unique_of l.bytes l.t i) l.m) (4 - l.i) l.i)
+
+abbrev pub decreases-loop-i : goal.decreases-loop-i
+decreases-loop-i l = 4 - l.i

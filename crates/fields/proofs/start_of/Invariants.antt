@@ -1,0 +1,18 @@
+use Rattle.schema.specs.Records.{table_of}
+use Prim.Native.Nat.{◌-◌}
+use mathlib.Core.Path.{◌≡◌, ap, ap₂, ◌∙◌}
+use Prim.Native.Nat.{◌+◌, ◌*◌, ◌≤◌}
+use native.Mathlib.Omega.{arith}
+use borrow.Author.Rules.{rules}
+use Rattle.schema.specs.Fields.{schema_of}
+use Rattle.schema.specs.Sizes.{table_size, table_offset}
+use Rattle.schema.proofs.SchemaLaws.{tables_are}
+use Rattle.schema.proofs.FieldLaws.{count_tables}
+use Rattle.schema.proofs.SizeLaws.{offset_start, offset_more}
+use Rattle.fields.proofs.start_of.Given as goal
+
+abbrev pub invariant-loop-i : goal.invariant-loop-i
+invariant-loop-i l = (l.i ≤ l.t) × ((l.at ≡ table_offset (schema_of l.bytes) l.i) × (l.at ≤ 333 + 9216 * l.i))
+
+abbrev pub decreases-loop-i : goal.decreases-loop-i
+decreases-loop-i l = l.t - l.i

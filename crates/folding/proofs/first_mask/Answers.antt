@@ -1,0 +1,11 @@
+use mathlib.Core.Path.{sym, ap}
+use Rattle.folding.specs.Masks.{first_mask}
+use Rattle.folding.proofs.first_mask.Goals as goal
+
+pub returns-then-f : goal.returns-then-f
+unfolding first_mask
+returns-then-f c = sym (ap first_mask c.if-f.true)
+
+pub returns : goal.returns
+unfolding first_mask
+returns c = sym (ap first_mask c.if-f.false)

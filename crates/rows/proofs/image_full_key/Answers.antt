@@ -1,0 +1,18 @@
+use mathlib.Core.Path.{sym, ap, ◌∙◌}
+use mathlib.Core.Bool.{not}
+use borrow.Author.Rules.{rules}
+use borrow.Author.Tests.{not-true, not-false}
+use Rattle.words.proofs.Signed.{back}
+use Rattle.rules.specs.Values.{nat_of}
+use Rattle.rows.proofs.CellLaws.{full_vacant, full_live}
+use Rattle.rows.proofs.image_full_key.Goals as goal
+
+pub returns-then-not-is_live : goal.returns-then-not-is_live
+returns-then-not-is_live c =
+    let e = c.nat_of-state.ensures ∙ ap nat_of (back _ c.nat_of-arg-1.given) in
+    full_vacant _ e _ (sym c.is_live.ensures ∙ c.if-not-is_live.true)
+
+pub returns : goal.returns
+returns c =
+    let e = c.nat_of-state.ensures ∙ ap nat_of (back _ c.nat_of-arg-1.given) in
+    ap not c.some_null.ensures ∙ full_live _ e _ (sym c.is_live.ensures ∙ c.if-not-is_live.false)

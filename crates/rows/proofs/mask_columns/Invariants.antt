@@ -1,0 +1,15 @@
+use mathlib.Core.Path.{◌≡◌, refl, sym, ap, ◌∙◌}
+use mathlib.Core.List.{[], ◌∷◌, ◌++◌}
+use Prim.Native.Nat.{ℕ, ◌+◌, ◌-◌, ◌≤◌}
+use native.Mathlib.Omega.{arith}
+use borrow.Author.Rules.{rules}
+use lib.ListN.{length, set, take, length-set}
+use Rattle.rules.specs.Keys.{mask_columns, mask_columns_from}
+use Rattle.rows.proofs.MaskLaws.{list_start, list_step, list_end}
+use Rattle.rows.proofs.mask_columns.Given as goal
+
+abbrev pub invariant-loop-i : goal.invariant-loop-i
+invariant-loop-i l = (l.i ≤ 8) × ((l.n ≤ l.i) × ((length l.list ≡ 8) × (mask_columns l.m ≡ take l.n l.list ++ mask_columns_from l.m l.i (8 - l.i))))
+
+abbrev pub decreases-loop-i : goal.decreases-loop-i
+decreases-loop-i l = 8 - l.i

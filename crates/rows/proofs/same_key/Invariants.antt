@@ -1,0 +1,19 @@
+use borrow.Author.Rules.{rules}
+use mathlib.Core.Path.{◌≡◌, refl, sym, ap, ◌∙◌}
+use mathlib.Core.Bool.{Bool}
+use Prim.Native.Nat.{◌-◌, ◌≤◌}
+use native.Mathlib.Omega.{arith}
+use borrow.Author.Tests.{not-true, not-false}
+use lib.ListN.{get_or, take, drop}
+use Rattle.rules.specs.Keys.{same_cell, same_key}
+use Rattle.rows.specs.KeyColumns.{folds_in}
+use Rattle.rows.proofs.ActionLaws.{same_none, same_miss, same_hit}
+use Rattle.rows.proofs.same_key.Given as goal
+
+abbrev pub invariant-loop-i : goal.invariant-loop-i
+invariant-loop-i l =
+    (l.i ≤ l.n)
+    × (same_key (folds_in l.n l.folded) (take l.n l.cs) (take l.n l.ds) l.x l.y ≡ same_key (drop l.i (folds_in l.n l.folded)) (drop l.i (take l.n l.cs)) (drop l.i (take l.n l.ds)) l.x l.y)
+
+abbrev pub decreases-loop-i : goal.decreases-loop-i
+decreases-loop-i l = l.n - l.i

@@ -1,0 +1,19 @@
+use mathlib.Core.Path.{◌≡◌, refl, ◌∙◌, ap}
+use Prim.Native.Nat.{◌-◌, ◌≤◌, ◌<◌}
+use native.Mathlib.Omega.{arith}
+use borrow.Author.Rules.{rules}
+use lib.ListN.{length}
+use Rattle.runs.specs.Runs.{ReachedIf}
+use Rattle.runs.proofs.RunLaws.{reached_one, run_from, run_start, run_step, run_none, run_all_lem, calls_begin, calls_room}
+use Rattle.runs.proofs.run.Given as goal
+
+abbrev pub invariant-loop-i : goal.invariant-loop-i
+invariant-loop-i l =
+    (l.i ≤ l.n)
+    × (length l.area ≡ length l.initial.area)
+    × (length l.answers ≡ length l.initial.answers)
+    × (run_from l.schema l.calls l.n 0 (l.initial.area, l.initial.answers) ≡ run_from l.schema l.calls (l.n - l.i) l.i (l.area, l.answers))
+    × ReachedIf l.reached l.schema l.area
+
+abbrev pub decreases-loop-i : goal.decreases-loop-i
+decreases-loop-i l = l.n - l.i

@@ -1,0 +1,21 @@
+use mathlib.Core.Path.{◌∙◌, ap₂}
+use Prim.Native.Nat.{◌+◌}
+use mir.Syntax.{w64}
+use mir.Val.{SFits}
+use mir.ValLaws.{to_z-of_z}
+use lib.ListN.{get_or}
+use Rattle.words.proofs.Signed.{back}
+use Rattle.rules.specs.Lists.{𝟘}
+use Rattle.rules.specs.Values.{same_word}
+use Rattle.folding.specs.Masks.{masked}
+use Rattle.skips.proofs.SkipLaws.{masked_is}
+use borrow.Author.Rules.{rules}
+use Rattle.skips.proofs.has_masked.Goals as goal
+
+pub returns : goal.returns
+returns c =
+    let a = c.args in
+    let m : SFits w64 a.word.m = search rules in
+    let v : SFits w64 a.word.v = search rules in
+    let u = back _ c.under_mask.type_inv ∙ c.under_mask.ensures ∙ ap₂ masked (to_z-of_z w64 a.word.m m) (back (get_or a.area.now (a.p + a.word.c) 𝟘) c.under_mask-arg-1.given) in
+    c.same_word.ensures ∙ ap₂ same_word u (to_z-of_z w64 a.word.v v) ∙ masked_is a.area.now a.p a.w a.word c.requires.1

@@ -1,0 +1,18 @@
+use mathlib.Core.Path.{◌≡◌, refl, sym, ◌∙◌}
+use Prim.Native.Nat.{◌-◌, ◌≤◌}
+use native.Mathlib.Omega.{arith}
+use borrow.Author.Rules.{rules}
+use lib.ListN.{length, drop}
+use Rattle.schema.specs.Records.{no_key}
+use Rattle.schema.specs.Fields.{schema_of}
+use Rattle.rules.specs.Lists.{any}
+use Rattle.bridge.proofs.LoopLaws.{any_none, any_hit, any_miss}
+use Rattle.table_keys.specs.Touched.{broken_used}
+use Rattle.table_keys.proofs.uses_broken.Given as goal
+
+abbrev pub invariant-loop-k : goal.invariant-loop-k
+invariant-loop-k l =
+    (l.k ≤ l.n) × ((l.n ≡ length (schema_of l.schema).keys) × (any (broken_used l.lives l.t l.lived) (schema_of l.schema).keys ≡ any (broken_used l.lives l.t l.lived) (drop l.k (schema_of l.schema).keys)))
+
+abbrev pub decreases-loop-k : goal.decreases-loop-k
+decreases-loop-k l = l.n - l.k

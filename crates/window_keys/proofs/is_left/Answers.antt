@@ -1,0 +1,41 @@
+use mathlib.Core.Path.{sym, ◌∙◌}
+use Rattle.windows.proofs.KeyDays.{window_in, serves_by_lem}
+use Rattle.window_keys.proofs.OrphanLaws.{child_pairs_lem, parents_stand, serving_ready, other_serving}
+use Rattle.window_keys.proofs.LeftLaws.{left_served, left_alone, left_others}
+use Rattle.window_keys.proofs.is_left.Goals as goal
+
+pub serves-requires : goal.serves-requires
+serves-requires c = window_in _ _ _ c.requires.0.1
+
+pub returns-then-serves : goal.returns-then-serves
+returns-then-serves c =
+    let serves = sym (serves_by_lem _ _ _ c.requires.0.1 c.args.child c.args.y) ∙ sym c.serves.ensures ∙ c.if-serves.true in
+    left_served _ _ _ _ c.args.clear serves
+
+pub returns-then-clear : goal.returns-then-clear
+returns-then-clear c =
+    let serves_not = sym (serves_by_lem _ _ _ c.requires.0.1 c.args.child c.args.y) ∙ sym c.serves.ensures ∙ c.if-serves.false in
+    left_alone _ _ _ _ serves_not c.if-clear.true
+
+pub sought_key-sought-requires : goal.sought_key-sought-requires
+sought_key-sought-requires c =
+    child_pairs_lem _ _ _ c.requires.0.1 _ c.requires.1.1
+
+pub parent_days-days-requires : goal.parent_days-days-requires
+parent_days-days-requires c =
+    window_in _ _ _ c.requires.0.1
+
+pub other_on-requires : goal.other_on-requires
+other_on-requires c =
+    let columns = c.requires.0.1 in
+    let rows = c.requires.1.0.0 in
+    ((parents_stand _ _ _ columns _ c.requires.0.0 _ rows, c.requires.1.0.1), serving_ready _ _ _ columns _ c.requires.0.0 _ rows _ c.requires.1.1 c.sought_key-sought.ensures c.parent_days-days.ensures)
+
+pub returns : goal.returns
+returns c =
+    let alone = c in
+    let s = alone in
+    let columns = s.requires.0.1 in
+    let serves_not = sym (serves_by_lem _ _ _ columns s.args.child s.args.y) ∙ sym alone.serves.ensures ∙ alone.if-serves.false in
+    let others = c.other_on.ensures ∙ other_serving _ _ _ columns _ s.requires.0.0 _ s.requires.1.0.0 _ s.requires.1.1 c.sought_key-sought.ensures c.parent_days-days.ensures s.args.r in
+    left_others _ _ _ _ serves_not c.if-clear.false others

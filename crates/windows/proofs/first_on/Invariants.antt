@@ -1,0 +1,20 @@
+use mathlib.Core.Path.{◌≡◌}
+use mathlib.Core.Bool.{true, false}
+use mathlib.Core.List.{[]}
+use Prim.Native.Nat.{ℕ, ◌-◌, ◌<◌, ◌≤◌}
+use native.Mathlib.Omega.{arith}
+use lib.ListN.{get_or}
+use Rattle.rows.specs.Standing.{rows_in}
+use Rattle.rows.specs.Sought.{has_sought}
+use Rattle.rows.proofs.TableLaws.{row_at_lem}
+use Rattle.scans.proofs.FirstLaws.{tested, none_more, first_stop, first_none}
+use Rattle.windows.specs.Days.{meets, is_on}
+use Rattle.windows.proofs.DayLaws.{on_key, keys_passed}
+use Rattle.windows.proofs.first_on.Given as goal
+
+abbrev pub invariant-loop-j : goal.invariant-loop-j
+invariant-loop-j l =
+    (l.from ≤ l.j) × (((i : ℕ) → l.from ≤ i → i < l.j → is_on l.key l.days (get_or (rows_in l.area l.table) i []) ≡ false) × (l.j < l.rows → has_sought l.key (get_or (rows_in l.area l.table) l.j []) ≡ true))
+
+abbrev pub decreases-loop-j : goal.decreases-loop-j
+decreases-loop-j l = l.rows - l.j

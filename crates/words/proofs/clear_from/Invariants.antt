@@ -1,0 +1,15 @@
+use mathlib.Core.Path.{◌≡◌, refl}
+use mathlib.Core.List.{◌++◌}
+use Prim.Native.Nat.{◌-◌, ◌≤◌}
+use native.Mathlib.Omega.{arith}
+use borrow.Author.Rules.{rules}
+use lib.IntN.{pos}
+use lib.ListN.{length, take, replicate, length-set}
+use Rattle.words.proofs.Cleared.{clear_start, clear_step, clear_end}
+use Rattle.words.proofs.clear_from.Given as goal
+
+abbrev pub invariant-loop-i : goal.invariant-loop-i
+invariant-loop-i l = (l.from ≤ l.i) × ((l.i ≤ l.n) × ((length l.area ≡ length l.initial.area) × (take l.i l.area ≡ take l.from l.initial.area ++ replicate (l.i - l.from) (pos 0))))
+
+abbrev pub decreases-loop-i : goal.decreases-loop-i
+decreases-loop-i l = l.n - l.i

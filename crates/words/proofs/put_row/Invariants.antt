@@ -1,0 +1,16 @@
+use Prim.Native.Nat.{◌<◌, ◌-◌, ◌≤◌}
+use mathlib.Core.Path.{◌≡◌}
+use native.Mathlib.Omega.{arith}
+use borrow.Author.Rules.{rules}
+use lib.ListN.{length, take, get_or, length-set}
+use lib.Seq.{sets}
+use lib.IntN.{pos}
+use Rattle.words.proofs.Signed.{back}
+use Rattle.words.proofs.Splice.{sets_more}
+use Rattle.words.proofs.put_row.Given as goal
+
+abbrev pub invariant-loop-k : goal.invariant-loop-k
+invariant-loop-k l = (l.k ≤ l.count) × ((length l.table ≡ length l.initial.table) × (l.table ≡ sets l.initial.table l.at (take l.k l.image)))
+
+abbrev pub decreases-loop-k : goal.decreases-loop-k
+decreases-loop-k l = l.count - l.k
