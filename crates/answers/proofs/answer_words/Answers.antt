@@ -11,11 +11,6 @@ word_of-requires c =
     let few : c.in-Done.changed ≤ 4096 = done_few _ _ c.in-Done.is c.requires in
     omega (arith, few)
 
-pub returns-in-Done : goal.returns-in-Done
-returns-in-Done c =
-    let fits = c.known_told-1.given in
-    done_words c.in-Done.changed c.in-Done.net c.in-Done.is (back _ c.word_of.type_inv ∙ c.word_of.ensures) (back _ fits.1.0.1)
-
 pub returns-in-Refused : goal.returns-in-Refused
 returns-in-Refused c =
     refused_words c.in-Refused.refusal c.in-Refused.is (back _ c.refusal_number.type_inv ∙ c.refusal_number.ensures)

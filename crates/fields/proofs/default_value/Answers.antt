@@ -25,7 +25,3 @@ overflow_add-t-3 c = omega (arith, table_within c.args.bytes.now c.requires.0 c.
 -- src/lib.rt:96:5
 pub signed_at-requires : goal.signed_at-requires
 signed_at-requires c = omega (arith, table_within c.args.bytes.now c.requires.0 c.args.t c.requires.1.0)
-
--- src/lib.rt:92:1
-pub returns : goal.returns
-returns c = to_z-of_z (record { sfits = c.signed_at.type_inv }) ∙ read_default c.args.bytes.now c.requires.0 c.args.t c.requires.1.0 c.args.c c.requires.1.1 c.signed_at.ensures

@@ -10,10 +10,3 @@ pub returns-in-1 : goal.returns-in-1
 unfolding match_from
 returns-in-1 c =
     read_match c.args.bytes.now c.requires.0 c.args.k c.requires.1 (ap match_from (sym c.in-1.is ∙ c.key_byte.ensures.0))
-
-pub returns-in_default : goal.returns-in_default
-unfolding match_from
-returns-in_default c =
-    let key_byte = c.key_byte in
-    let simple : Simple ≡ match_from key_byte.result = rw (ne_eqb _ 1 c.in-1.rest.1) refl in
-    read_match c.args.bytes.now c.requires.0 c.args.k c.requires.1 (simple ∙ ap match_from key_byte.ensures.0)

@@ -23,7 +23,7 @@ low_fits : (n : ℕ) → T (non_neg (to_z w64 (bit_and n 0x7fffffffffffffff))) �
 low_fits n = rw (low n) (tt, record { fits = let h = mod_lt n in omega (arith, h) })
   where
     mod_lt : (m : ℕ) → m % 2 ^ 63 < 2 ^ 63
-    mod_lt m = native.Mathlib.Nat.mod_lt m (lib.Dec.lit< tt)
+    mod_lt m = native.Mathlib.Nat.mod-lt m (lib.Dec.lit< tt)
 
 high : (n : ℕ) → 2 ^ 63 ≤ n → n < 2 ^ 64 → n % 2 ^ 63 + 2 ^ 63 ≡ n
 high n h l =

@@ -14,7 +14,7 @@ use Rattle.sums.proofs.SumLaws.{sum_start, sum_more, sum_end}
 use Rattle.sums.proofs.sum_of.Given as goal
 
 abbrev pub invariant-loop-k : goal.invariant-loop-k
-invariant-loop-k l = (l.k ≤ 32) × ((nat_abs (to_z w64 l.s) ≤ l.k * 4096) × (to_z w64 l.s +ℤ sum (drop l.k l.numbers) ≡ sum l.numbers))
+invariant-loop-k l = (l.k ≤ 32) × ((nat_abs l.s ≤ l.k * 4096) × (l.s +ℤ sum (drop l.k l.numbers) ≡ sum l.numbers))
 
 abbrev pub decreases-loop-k : goal.decreases-loop-k
 decreases-loop-k l = 32 - l.k
