@@ -16,7 +16,7 @@ window_here : (c : After-windows) → c.windows.result ≡ Fields.windowed_of c.
 window_here c = c.windows.ensures.0 ∙ sym (read_windows _ c.requires.0.0 _ c.requires.0.1 refl).0
 
 some_here : (c : Else-windows-eq0) → Fields.windowed_of c.args.bytes.now c.args.k ≡ 0 → ⊥
-some_here c e = c.if-windows-eq0.false (window_here c.After-windows ∙ e)
+some_here c e = c.if-windows-eq0.false (c.windows.ensures.0 ∙ sym (read_windows _ c.requires.0.0 _ c.requires.0.1 refl).0 ∙ e)
 
 -- the columns are those of the parent table
 columns_here : (c : After-columns) → c.columns.result ≡ Fields.columns_of c.args.bytes.now (Fields.parent_of c.args.bytes.now c.args.k)

@@ -17,12 +17,12 @@ parent_here c = c.parent-t.ensures ∙ sym (read_parent _ c.requires.0 _ c.requi
 
 -- the parent table is there
 there_here : (c : Else-tables-t) → Fields.parent_of c.args.bytes.now c.args.k < Fields.table_count c.args.bytes.now
-there_here c = omega (arith, c.if-tables-t.false, c.table_count-tables.ensures.0, tables_are c.args.bytes.now, parent_here c.After-parent-t)
+there_here c = omega (arith, c.if-tables-t.false, c.table_count-tables.ensures.0, tables_are c.args.bytes.now, c.parent-t.ensures ∙ sym (read_parent _ c.requires.0 _ c.requires.1 refl))
 
 -- its unique keys were compared with the mask
 unique_here : (c : After-has_unique) → c.has_unique.result ≡ any_from (λ i. eqb (Fields.unique_of c.args.bytes.now (Fields.parent_of c.args.bytes.now c.args.k) i) c.parent_mask-m.result) 4 0
 unique_here c =
-    c.has_unique.ensures ∙ ap (λ (t : ℕ). any_from (λ i. eqb (Fields.unique_of c.args.bytes.now t i) c.parent_mask-m.result) 4 0) (parent_here c.After-parent-t)
+    c.has_unique.ensures ∙ ap (λ (t : ℕ). any_from (λ i. eqb (Fields.unique_of c.args.bytes.now t i) c.parent_mask-m.result) 4 0) (c.parent-t.ensures ∙ sym (read_parent _ c.requires.0 _ c.requires.1 refl))
 
 pub returns-then-tables-t : goal.returns-then-tables-t
 returns-then-tables-t c =
