@@ -14,3 +14,7 @@ word_of-requires c =
 pub returns-in-Refused : goal.returns-in-Refused
 returns-in-Refused c =
     refused_words c.in-Refused.refusal c.in-Refused.is (back _ c.refusal_number.type_inv ∙ c.refusal_number.ensures)
+
+pub returns-in-Done : goal.returns-in-Done
+returns-in-Done c =
+    done_words c.in-Done.changed c.in-Done.net c.in-Done.is (back _ c.word_of.type_inv ∙ c.word_of.ensures) (back _ c.in-Done.known_told-1-own.given.1.0.1)

@@ -21,7 +21,7 @@ pub shape_of-area : goal.shape_of-area
 shape_of-area c =
     let word_of = c.word_of in
     let put_numbers = c.put_numbers in
-    put_numbers.auto.0 ∙ length-set c.args.area.now c.args.at (to_z w64 (of_z w64 word_of.result))
+    put_numbers.auto.area ∙ length-set c.args.area.now c.args.at (to_z w64 (of_z w64 word_of.result))
 
 pub returns : goal.returns
 returns c =
