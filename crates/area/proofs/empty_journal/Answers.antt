@@ -26,7 +26,7 @@ clear_from-requires c =
 pub slice_set_of-area : goal.slice_set_of-area
 slice_set_of-area c =
     let dirty_end = c.dirty_end-end in
-    simp length-append (omega (arith, part_length dirty_end.ensures, dirty_end.ensures.after, c.clear_from.auto.0))
+    simp length-append (omega (arith, part_length dirty_end.ensures, dirty_end.ensures.after, c.clear_from.auto.area))
 
 pub returns : goal.returns
 returns c =

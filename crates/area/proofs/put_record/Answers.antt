@@ -17,7 +17,7 @@ put_row-requires c =
     (omega arith, omega arith)
 
 pub shape_of-area : goal.shape_of-area
-shape_of-area c = let a = c.args in c.put_row.auto.0 ∙ length-set a.area.now a.at (to_z w64 (of_z w64 c.word_of.result))
+shape_of-area c = let a = c.args in c.put_row.auto.table ∙ length-set a.area.now a.at (to_z w64 (of_z w64 c.word_of.result))
 
 pub returns : goal.returns
 returns c =

@@ -32,7 +32,7 @@ put_in_table-requires c =
     let nat_at = c.nat_at-place in
     let image_at = c.image_at-old in
     let set_record = c.set_record in
-    (newest_place c.requires.0 c.requires.1 record_at.ensures nat_at.ensures image_at.ensures, set_record.auto.0 ∙ c.requires.0.ready.fit.size)
+    (newest_place c.requires.0 c.requires.1 record_at.ensures nat_at.ensures image_at.ensures, set_record.auto.area ∙ c.requires.0.ready.fit.size)
 
 pub returns : goal.returns
 returns c =

@@ -30,7 +30,7 @@ set_record-requires c =
 pub put_in_table-requires : goal.put_in_table-requires
 put_in_table-requires c =
     let set_record = c.set_record in
-    (record { accepted = c.requires.0.ready.accepted; table = c.requires.0.table; row = c.requires.0.row }, set_record.auto.0 ∙ c.requires.0.ready.fit.size)
+    (record { accepted = c.requires.0.ready.accepted; table = c.requires.0.table; row = c.requires.0.row }, set_record.auto.area ∙ c.requires.0.ready.fit.size)
 
 pub returns : goal.returns
 returns c =
