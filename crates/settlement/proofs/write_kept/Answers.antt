@@ -10,7 +10,7 @@ pub put_numbers-requires : goal.put_numbers-requires
 put_numbers-requires c = omega (arith, area_long c.requires.0.fit)
 
 pub nat_at-requires : goal.nat_at-requires
-nat_at-requires c = omega (arith, area_long c.requires.0.fit, c.put_numbers.auto.0)
+nat_at-requires c = omega (arith, area_long c.requires.0.fit, c.put_numbers.auto.area)
 
 pub returns-then-nat_at-ge1 : goal.returns-then-nat_at-ge1
 returns-then-nat_at-ge1 c =
