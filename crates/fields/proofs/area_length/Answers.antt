@@ -1,6 +1,5 @@
 use native.Mathlib.Omega.{arith}
 use Rattle.schema.proofs.SizeLaws.{size_all}
-use borrow.Author.Rules.{rules}
 use Rattle.fields.proofs.area_length.Goals as goal
 
 pub returns : goal.returns

@@ -1,7 +1,6 @@
 use mathlib.Core.Path.{◌∙◌}
 use Rattle.schema.specs.Fields
 use Rattle.schema.proofs.FieldLaws.{read_child, byte_zero}
-use borrow.Author.Rules.{rules}
 use Rattle.fields.proofs.child.Goals as goal
 
 -- src/lib.rt:110:1

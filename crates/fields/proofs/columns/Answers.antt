@@ -1,6 +1,4 @@
-use Rattle.schema.specs.Fields
 use Rattle.schema.proofs.FieldLaws.{read_columns}
-use borrow.Author.Rules.{rules}
 use Rattle.fields.proofs.columns.Goals as goal
 
 -- src/lib.rt:60:1

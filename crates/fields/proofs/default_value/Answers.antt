@@ -2,9 +2,7 @@ use mathlib.Core.Path.{◌∙◌}
 use native.Mathlib.Omega.{arith}
 use mir.Syntax.{w64}
 use mir.ValLaws.{to_z-of_z}
-use Rattle.schema.specs.Fields
 use Rattle.schema.proofs.FieldLaws.{table_within, read_default}
-use borrow.Author.Rules.{rules}
 use Rattle.fields.proofs.default_value.Goals as goal
 
 pub overflow_mul-t : goal.overflow_mul-t

@@ -2,7 +2,6 @@ use native.Mathlib.Omega.{arith}
 use mathlib.Core.Path.{refl}
 use Prim.Native.Nat.{◌≤◌}
 use Rattle.schema.proofs.FieldLaws.{read_width, read_end}
-use borrow.Author.Rules.{rules}
 use Rattle.fields.proofs.end_column.Goals as goal
 use Rattle.fields.proofs.end_column.Goals.{After-shared_slice_known-1}
 

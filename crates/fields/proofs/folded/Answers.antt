@@ -1,5 +1,4 @@
 use Rattle.schema.proofs.FieldLaws.{read_folded}
-use borrow.Author.Rules.{rules}
 use Rattle.fields.proofs.folded.Goals as goal
 
 pub returns : goal.returns

@@ -7,7 +7,6 @@ use Rattle.schema.proofs.SchemaLaws.{keys_are, accepted_formed}
 use Rattle.schema.proofs.Formed.{formed}
 use Rattle.schema.proofs.KeyLaws.{end_none, end_missing, end_by_mask}
 use Rattle.schema.proofs.FieldLaws.{read_windows, read_columns}
-use borrow.Author.Rules.{rules}
 use Rattle.fields.proofs.has_end.Goals as goal
 use Rattle.fields.proofs.has_end.Goals.{After-columns, After-windows, Else-windows-eq0}
 

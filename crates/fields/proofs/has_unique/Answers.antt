@@ -1,9 +1,8 @@
 use mathlib.Core.Path.{◌≡◌, refl, sym, ap, ◌∙◌}
-use Prim.Native.Nat.{ℕ, ◌-◌, ◌≤◌}
+use Prim.Native.Nat.{ℕ}
 use native.Mathlib.Omega.{arith}
 use borrow.Author.Rules.{rules}
 use lib.Dec.{eqb}
-use Rattle.schema.specs.Ranges.{any_from}
 use Rattle.schema.specs.Fields
 use Rattle.schema.proofs.RangeLaws.{any_none, any_stop, any_go}
 use Rattle.schema.proofs.FieldLaws.{read_unique}

@@ -1,12 +1,8 @@
-use mathlib.Core.Path.{◌≡◌, refl, sym, ap, ◌∙◌}
-use Prim.Native.Nat.{ℕ, ◌-◌, ◌≤◌}
-use native.Mathlib.Omega.{arith}
-use borrow.Author.Rules.{rules}
+use mathlib.Core.Path.{◌≡◌}
+use Prim.Native.Nat.{◌-◌, ◌≤◌}
 use lib.Dec.{eqb}
 use Rattle.schema.specs.Ranges.{any_from}
 use Rattle.schema.specs.Fields
-use Rattle.schema.proofs.RangeLaws.{any_none, any_stop, any_go}
-use Rattle.schema.proofs.FieldLaws.{read_unique}
 use Rattle.fields.proofs.has_unique.Given as goal
 
 abbrev pub invariant-loop-i : goal.invariant-loop-i

@@ -2,13 +2,11 @@ use mathlib.Core.Path.{◌≡◌, refl, sym, ap, ◌∙◌}
 use mathlib.Core.Bool.{Bool, not, ◌&&◌}
 use Prim.Native.Nat.{ℕ, ◌<◌}
 use native.Mathlib.Omega.{arith}
-use borrow.Author.Tests.{not-true, not-false}
 use lib.Dec.{eqb}
 use Rattle.schema.specs.Ranges.{any_from}
 use Rattle.schema.specs.Fields
 use Rattle.schema.proofs.SchemaLaws.{tables_are}
 use Rattle.schema.proofs.FieldLaws.{read_parent, broken_table, broken_mask, parent_mask_is, parent_ones}
-use borrow.Author.Rules.{rules}
 use Rattle.fields.proofs.is_broken.Goals as goal
 use Rattle.fields.proofs.is_broken.Goals.{After-has_unique, After-parent-t, Else-tables-t}
 

@@ -1,9 +1,7 @@
 use mathlib.Core.Path.{ap}
 use Prim.Native.Nat.{ℕ}
 use lib.Dec.{eqb}
-use Rattle.schema.specs.Fields
 use Rattle.schema.proofs.FieldLaws.{read_deferred}
-use borrow.Author.Rules.{rules}
 use Rattle.fields.proofs.is_deferred.Goals as goal
 
 -- src/lib.rt:126:1

@@ -1,7 +1,6 @@
 use mathlib.Core.Path.{◌∙◌}
 use native.Mathlib.Omega.{arith}
 use Rattle.schema.proofs.SizeLaws.{offset_end}
-use borrow.Author.Rules.{rules}
 use Rattle.fields.proofs.journal_start.Goals as goal
 
 pub returns : goal.returns

@@ -2,9 +2,7 @@ use mathlib.Core.Path.{ap, ◌∙◌}
 use Prim.Native.Nat.{ℕ, ◌+◌}
 use native.Mathlib.Omega.{arith}
 use Rattle.schema.specs.Bytes
-use Rattle.schema.specs.Fields
 use Rattle.schema.proofs.FieldLaws.{header_within, key_within}
-use borrow.Author.Rules.{rules}
 use Rattle.fields.proofs.key_byte.Goals as goal
 
 -- src/lib.rt:106:28

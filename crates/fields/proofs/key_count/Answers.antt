@@ -1,5 +1,4 @@
 use native.Mathlib.Omega.{arith}
-use Rattle.schema.specs.Fields
 use Rattle.schema.proofs.FieldLaws.{header_within, count_keys}
 use Rattle.fields.proofs.key_count.Goals as goal
 

@@ -2,7 +2,6 @@ use mathlib.Core.Path.{◌≡◌, refl, sym, ap, ◌∙◌}
 use Rattle.schema.specs.declared.Match.TheVariants.{Simple}
 use Rattle.schema.specs.Fields.{match_from}
 use Rattle.schema.proofs.FieldLaws.{read_match}
-use borrow.Author.Rules.{rules}
 use borrow.Author.Tests.{ne_eqb}
 use Rattle.fields.proofs.key_match.Goals as goal
 

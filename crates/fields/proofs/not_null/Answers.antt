@@ -1,6 +1,4 @@
-use Rattle.schema.specs.Fields
 use Rattle.schema.proofs.FieldLaws.{read_not_null}
-use borrow.Author.Rules.{rules}
 use Rattle.fields.proofs.not_null.Goals as goal
 
 -- src/lib.rt:68:1

@@ -1,7 +1,6 @@
 use mathlib.Core.Path.{ap, ◌∙◌}
 use Rattle.schema.specs.Fields
 use Rattle.schema.proofs.FieldLaws.{read_on_update}
-use borrow.Author.Rules.{rules}
 use Rattle.fields.proofs.on_update.Goals as goal
 
 -- src/lib.rt:155:1

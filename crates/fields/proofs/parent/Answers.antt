@@ -1,6 +1,4 @@
-use Rattle.schema.specs.Fields
 use Rattle.schema.proofs.FieldLaws.{read_parent}
-use borrow.Author.Rules.{rules}
 use Rattle.fields.proofs.parent.Goals as goal
 
 -- src/lib.rt:118:1

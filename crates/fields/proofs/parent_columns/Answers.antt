@@ -3,7 +3,6 @@ use Prim.Native.Nat.{ℕ, ◌+◌}
 use native.Mathlib.Omega.{arith}
 use Rattle.schema.specs.Bytes
 use Rattle.schema.proofs.FieldLaws.{header_within, key_within, read_parent_columns}
-use borrow.Author.Rules.{rules}
 use Rattle.fields.proofs.parent_columns.Goals as goal
 
 pub key_start-requires : goal.key_start-requires

@@ -1,15 +1,7 @@
-use mathlib.Core.Path.{◌≡◌, refl, sym, ap, ap₂, ◌∙◌}
-use mathlib.Core.List.{List}
-use Prim.Native.Nat.{ℕ, ◌+◌, ◌*◌, ◌-◌, ◌^◌, ◌≤◌, ◌<◌}
-use native.Mathlib.Omega.{arith}
-use borrow.Author.Rules.{rules}
-use lib.Dec.{eqb}
-use lib.Pow.{pow_mono}
-use Rattle.schema.specs.Bytes
+use mathlib.Core.Path.{◌≡◌}
+use Prim.Native.Nat.{◌*◌, ◌-◌, ◌≤◌}
 use Rattle.schema.specs.Bytes.{column_mask}
 use Rattle.schema.specs.Fields
-use Rattle.schema.proofs.FieldLaws.{byte_assoc, read_width}
-use Rattle.schema.proofs.MaskLaws.{mask_start, mask_more, mask_past}
 use Rattle.fields.proofs.parent_mask.Given as goal
 
 abbrev pub invariant-loop-i : goal.invariant-loop-i

@@ -1,5 +1,4 @@
 use native.Mathlib.Omega.{arith}
-use Rattle.schema.specs.Fields
 use Rattle.schema.proofs.FieldLaws.{header_within, read_room}
 use Rattle.fields.proofs.room.Goals as goal
 

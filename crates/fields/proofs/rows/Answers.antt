@@ -1,5 +1,4 @@
 use native.Mathlib.Omega.{arith}
-use Rattle.schema.specs.Fields
 use Rattle.schema.proofs.FieldLaws.{table_within, read_rows}
 use Rattle.fields.proofs.rows.Goals as goal
 

@@ -1,14 +1,8 @@
-use Rattle.schema.specs.Records.{table_of}
 use Prim.Native.Nat.{◌-◌}
-use mathlib.Core.Path.{◌≡◌, ap, ap₂, ◌∙◌}
+use mathlib.Core.Path.{◌≡◌}
 use Prim.Native.Nat.{◌+◌, ◌*◌, ◌≤◌}
-use native.Mathlib.Omega.{arith}
-use borrow.Author.Rules.{rules}
 use Rattle.schema.specs.Fields.{schema_of}
-use Rattle.schema.specs.Sizes.{table_size, table_offset}
-use Rattle.schema.proofs.SchemaLaws.{tables_are}
-use Rattle.schema.proofs.FieldLaws.{count_tables}
-use Rattle.schema.proofs.SizeLaws.{offset_start, offset_more}
+use Rattle.schema.specs.Sizes.{table_offset}
 use Rattle.fields.proofs.start_of.Given as goal
 
 abbrev pub invariant-loop-i : goal.invariant-loop-i

@@ -1,7 +1,5 @@
 use native.Mathlib.Omega.{arith}
-use Rattle.schema.specs.Fields
 use Rattle.schema.proofs.FieldLaws.{table_within}
-use borrow.Author.Rules.{rules}
 use Rattle.fields.proofs.table_byte.Goals as goal
 
 -- src/lib.rt:48:33

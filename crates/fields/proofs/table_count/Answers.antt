@@ -1,5 +1,4 @@
 use native.Mathlib.Omega.{arith}
-use Rattle.schema.specs.Fields
 use Rattle.schema.proofs.FieldLaws.{header_within, count_tables}
 use Rattle.fields.proofs.table_count.Goals as goal
 

@@ -1,7 +1,6 @@
 use Prim.Native.Nat.{◌+◌}
 use native.Mathlib.Omega.{arith}
 use Rattle.schema.proofs.SizeLaws.{product, size_is}
-use borrow.Author.Rules.{rules}
 use Rattle.fields.proofs.table_words.Goals as goal
 
 pub overflow_mul-result : goal.overflow_mul-result

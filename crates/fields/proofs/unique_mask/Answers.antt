@@ -2,7 +2,6 @@ use mathlib.Core.Path.{◌∙◌}
 use Rattle.schema.specs.Fields
 use Rattle.schema.proofs.FieldLaws.{byte_assoc, read_unique}
 use native.Mathlib.Omega.{arith}
-use borrow.Author.Rules.{rules}
 use Rattle.fields.proofs.unique_mask.Goals as goal
 
 -- src/lib.rt:80:5

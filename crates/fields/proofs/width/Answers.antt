@@ -1,6 +1,4 @@
-use Rattle.schema.specs.Fields
 use Rattle.schema.proofs.FieldLaws.{read_width}
-use borrow.Author.Rules.{rules}
 use Rattle.fields.proofs.width.Goals as goal
 
 -- src/lib.rt:163:1

@@ -1,5 +1,4 @@
 use Rattle.schema.proofs.FieldLaws.{read_windows}
-use borrow.Author.Rules.{rules}
 use Rattle.fields.proofs.windows.Goals as goal
 
 pub returns : goal.returns

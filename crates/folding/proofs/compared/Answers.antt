@@ -2,9 +2,7 @@ use mathlib.Core.Path.{ap, ◌∙◌}
 use mir.Syntax.{w64}
 use mir.Val.{of_z, to_z}
 use mir.ValLaws.{to_z-of_z}
-use borrow.Author.Rules.{rules}
 use Rattle.rules.specs.Values.{raised, each_byte}
-use borrow.Author.Tests.{not-true, not-false}
 use Rattle.folding.proofs.FoldLaws.{not_folded, is_folded}
 use Rattle.folding.proofs.compared.Goals as goal
 

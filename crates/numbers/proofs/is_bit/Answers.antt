@@ -1,6 +1,5 @@
 use mathlib.Core.Path.{sym}
 use Rattle.schema.proofs.MaskLaws.{bit_high}
-use borrow.Author.Rules.{rules}
 use Rattle.numbers.proofs.is_bit.Goals as goal
 
 pub returns-then-i-ge64 : goal.returns-then-i-ge64

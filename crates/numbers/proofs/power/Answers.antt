@@ -1,7 +1,6 @@
 use Prim.Native.Nat.{◌^◌, ◌<◌}
 use native.Mathlib.Omega.{arith}
 use lib.Pow.{pow-lt}
-use borrow.Author.Rules.{rules}
 use Rattle.numbers.proofs.power.Goals as goal
 
 pub returns : goal.returns

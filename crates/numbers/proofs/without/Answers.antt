@@ -1,9 +1,8 @@
 use mathlib.Core.Path.{◌≡◌, sym}
 use mathlib.Core.Bool.{Bool, not, ◌&&◌}
-use Prim.Native.Nat.{ℕ, ◌-◌, ◌≤◌}
+use Prim.Native.Nat.{ℕ}
 use native.Mathlib.Omega.{arith}
 use borrow.Author.Rules.{rules}
-use Rattle.schema.specs.Bytes.{bit}
 use Rattle.schema.specs.Marks.{Marks}
 use Rattle.schema.proofs.MaskLaws.{marks_start, marks_more}
 use Rattle.numbers.proofs.without.Goals as goal

@@ -1,11 +1,7 @@
-use mathlib.Core.Path.{◌≡◌, sym}
-use mathlib.Core.Bool.{Bool, not, ◌&&◌}
-use Prim.Native.Nat.{ℕ, ◌-◌, ◌≤◌}
-use native.Mathlib.Omega.{arith}
-use borrow.Author.Rules.{rules}
+use mathlib.Core.Bool.{not, ◌&&◌}
+use Prim.Native.Nat.{◌-◌, ◌≤◌}
 use Rattle.schema.specs.Bytes.{bit}
 use Rattle.schema.specs.Marks.{Marks}
-use Rattle.schema.proofs.MaskLaws.{marks_start, marks_more}
 use Rattle.numbers.proofs.without.Given as goal
 
 abbrev pub invariant-loop-k : goal.invariant-loop-k

@@ -1,11 +1,11 @@
 use Rattle.words.proofs.Splice.{read_more, sets_padded}
 use mathlib.Core.Path.{◌≡◌, ◌∙◌}
-use Prim.Native.Nat.{◌+◌, ◌-◌, ◌≤◌}
+use Prim.Native.Nat.{◌+◌, ◌-◌}
 use native.Mathlib.Omega.{arith}
 use borrow.Author.Rules.{rules}
 use lib.IntN.{pos}
 use lib.ListN.{length, get_or, take, drop, replicate, length-set, length-drop}
-use lib.Seq.{sets, length-take-le}
+use lib.Seq.{length-take-le}
 use Rattle.words.proofs.Signed.{back}
 use Rattle.words.proofs.image_at.Goals as goal
 

@@ -1,12 +1,8 @@
-use Rattle.words.proofs.Splice.{read_more, sets_padded}
-use mathlib.Core.Path.{◌≡◌, ◌∙◌}
-use Prim.Native.Nat.{◌+◌, ◌-◌, ◌≤◌}
-use native.Mathlib.Omega.{arith}
-use borrow.Author.Rules.{rules}
+use mathlib.Core.Path.{◌≡◌}
+use Prim.Native.Nat.{◌-◌, ◌≤◌}
 use lib.IntN.{pos}
-use lib.ListN.{length, get_or, take, drop, replicate, length-set, length-drop}
-use lib.Seq.{sets, length-take-le}
-use Rattle.words.proofs.Signed.{back}
+use lib.ListN.{length, take, drop, replicate}
+use lib.Seq.{sets}
 use Rattle.words.proofs.image_at.Given as goal
 
 abbrev pub invariant-loop-k : goal.invariant-loop-k

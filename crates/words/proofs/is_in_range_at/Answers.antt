@@ -1,6 +1,5 @@
 use mathlib.Core.Path.{◌∙◌, ap₂}
 use mathlib.Core.Bool.{◌&&◌}
-use borrow.Author.Rules.{rules}
 use lib.Dec.{leb}
 use Rattle.words.proofs.Signed.{in_range_is}
 use Rattle.words.proofs.is_in_range_at.Goals as goal

@@ -1,5 +1,4 @@
 use mathlib.Core.Path.{◌∙◌, ap}
-use borrow.Author.Rules.{rules}
 use Rattle.rules.specs.Values.{natural}
 use Rattle.words.proofs.Signed.{back}
 use Rattle.words.proofs.is_natural_at.Goals as goal

@@ -1,5 +1,4 @@
 use mathlib.Core.Path.{◌∙◌, ap}
-use borrow.Author.Rules.{rules}
 use lib.IntN.{pos}
 use Rattle.rules.specs.Values.{same_word}
 use Rattle.words.proofs.Signed.{back}

@@ -1,6 +1,5 @@
 use mathlib.Core.Path.{◌∙◌, ap}
 use Rattle.words.proofs.Signed.{back}
-use borrow.Author.Rules.{rules}
 use Rattle.rules.specs.Values.{nat_of}
 use Rattle.words.proofs.nat_at.Goals as goal
 

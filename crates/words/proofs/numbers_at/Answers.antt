@@ -1,10 +1,9 @@
 use mathlib.Core.Path.{◌≡◌, refl, ◌∙◌}
-use Prim.Native.Nat.{◌+◌, ◌-◌, ◌≤◌}
+use Prim.Native.Nat.{◌+◌}
 use native.Mathlib.Omega.{arith}
 use borrow.Author.Rules.{rules}
 use lib.IntN.{pos}
-use lib.ListN.{length, get_or, take, drop, replicate, length-set}
-use lib.Seq.{sets}
+use lib.ListN.{get_or, replicate, length-set}
 use Rattle.words.proofs.Signed.{back}
 use Rattle.words.proofs.Splice.{read_more, read_all}
 use Rattle.words.proofs.numbers_at.Goals as goal

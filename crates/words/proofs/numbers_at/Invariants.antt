@@ -1,12 +1,8 @@
-use mathlib.Core.Path.{◌≡◌, refl, ◌∙◌}
-use Prim.Native.Nat.{◌+◌, ◌-◌, ◌≤◌}
-use native.Mathlib.Omega.{arith}
-use borrow.Author.Rules.{rules}
+use mathlib.Core.Path.{◌≡◌}
+use Prim.Native.Nat.{◌-◌, ◌≤◌}
 use lib.IntN.{pos}
-use lib.ListN.{length, get_or, take, drop, replicate, length-set}
+use lib.ListN.{length, take, drop, replicate}
 use lib.Seq.{sets}
-use Rattle.words.proofs.Signed.{back}
-use Rattle.words.proofs.Splice.{read_more, read_all}
 use Rattle.words.proofs.numbers_at.Given as goal
 
 abbrev pub invariant-loop-k : goal.invariant-loop-k

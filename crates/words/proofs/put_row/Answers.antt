@@ -1,9 +1,8 @@
-use Prim.Native.Nat.{◌<◌, ◌-◌, ◌≤◌}
+use Prim.Native.Nat.{◌<◌}
 use mathlib.Core.Path.{◌≡◌}
 use native.Mathlib.Omega.{arith}
 use borrow.Author.Rules.{rules}
-use lib.ListN.{length, take, get_or, length-set}
-use lib.Seq.{sets}
+use lib.ListN.{length, get_or, length-set}
 use lib.IntN.{pos}
 use Rattle.words.proofs.Signed.{back}
 use Rattle.words.proofs.Splice.{sets_more}

@@ -1,12 +1,7 @@
-use Prim.Native.Nat.{◌<◌, ◌-◌, ◌≤◌}
+use Prim.Native.Nat.{◌-◌, ◌≤◌}
 use mathlib.Core.Path.{◌≡◌}
-use native.Mathlib.Omega.{arith}
-use borrow.Author.Rules.{rules}
-use lib.ListN.{length, take, get_or, length-set}
+use lib.ListN.{length, take}
 use lib.Seq.{sets}
-use lib.IntN.{pos}
-use Rattle.words.proofs.Signed.{back}
-use Rattle.words.proofs.Splice.{sets_more}
 use Rattle.words.proofs.put_row.Given as goal
 
 abbrev pub invariant-loop-k : goal.invariant-loop-k

@@ -1,6 +1,5 @@
 use mir.Syntax.{w64}
 use mir.ValLaws.{to_z_pos}
-use borrow.Author.Rules.{rules}
 use Rattle.words.proofs.word_of.Goals as goal
 
 pub returns : goal.returns

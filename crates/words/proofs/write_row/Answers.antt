@@ -2,7 +2,6 @@ use Prim.Native.Nat.{◌*◌, ◌-◌}
 use native.Mathlib.Omega.{arith}
 use lib.ListN.{take, length-take}
 use Rattle.words.proofs.Splice.{lent_sets}
-use borrow.Author.Rules.{rules}
 use Rattle.words.proofs.write_row.Goals as goal
 
 pub returns : goal.returns
