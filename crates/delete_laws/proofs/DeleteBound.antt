@@ -27,7 +27,7 @@ use Rattle.rules.specs.Values.{nat_of}
 use Rattle.rules.specs.Refusals.{number, shown}
 use Rattle.rules.specs.Rows.{deleted_image, live}
 use Rattle.rules.specs.Book.{Work, Book}
-use Rattle.rules.specs.Calls.{Call, delete, delete_where, parse, seeks_null}
+use Rattle.rules.specs.Calls.{Call, malformed, insert, update, delete, begin, savepoint, release, rollback_to, rollback, commit, delete_where, update_where, parse, seeks_null}
 use Rattle.rules.specs.Change.{Result, change}
 use Rattle.rules.specs.Found.{is_found, rows_found}
 use Rattle.rules.specs.Statement.{Turn, check, demand, settle, conclude, statement, row_statement}
@@ -99,6 +99,16 @@ module _ (s : Schema) (b : Book) where
     in_act (delete_where t c m v) rows_found_lem =
         in_statement (rows_found s t (is_found (table_of s t).folded c (seeks_null m) v) (λ x. deleted_image))
         (ends_found shapes bound t (is_found (table_of s t).folded c (seeks_null m) v) (λ x e. and_left (live x) _ e) b.work)
+    in_act malformed d = elim d [ ]
+    in_act (insert _ _ _ _) d = elim d [ ]
+    in_act (update _ _ _ _) d = elim d [ ]
+    in_act begin d = elim d [ ]
+    in_act savepoint d = elim d [ ]
+    in_act (release _) d = elim d [ ]
+    in_act (rollback_to _) d = elim d [ ]
+    in_act rollback d = elim d [ ]
+    in_act commit d = elim d [ ]
+    in_act (update_where _ _ _ _ _ _) d = elim d [ ]
 
     in_step : (c : List ℤ) → Deletes (parse c) → InBook s b (step s c b).0
     unfolding step number

@@ -64,7 +64,7 @@ lasting_run bs acc {b} l cs = run_is bs acc cs (words b) ∙ area_run_lem (accep
 pub lasting_end : {s : Schema} {b : Book} → Valid s → Lasting s b → (cs : List (List ℤ)) → Lasting s (run s cs b).1
 unfolding run_all
 lasting_end v l [] = l
-lasting_end {s} {b} v l (c ∷ cs) = lasting_end v (lasting_step v l c (step s c b) refl) cs
+lasting_end {s} {b} v l (c ∷ cs) = lasting_end {b = (step s c b).1} v (lasting_step v l c (step s c b) refl) cs
 
 -- ---- the book of an area that calls led to
 

@@ -76,5 +76,5 @@ module _ (s : Schema) (v : Valid s) (o : Order) where
   run_alike l l' a [] = record { answers = refl; books = a }
   run_alike {b} {b'} l l' a (c ∷ cs) =
       let t : AlikeTurns o (step s c b) (step s c b') = step_alike (good_lasting l) (good_lasting l') a c in
-      let r : AlikeRuns (run s cs (step s c b).1) (run s cs (step s c b').1) = run_alike (lasting_step v l c _ refl) (lasting_step v l' c _ refl) t.books cs in
+      let r : AlikeRuns (run s cs (step s c b).1) (run s cs (step s c b').1) = run_alike {b = (step s c b).1} {b' = (step s c b').1} (lasting_step v l c _ refl) (lasting_step v l' c _ refl) t.books cs in
       record { answers = ap₂ (λ a l. (c, a) ∷ l) t.answer r.answers; books = r.books }

@@ -69,6 +69,7 @@ module _ (s : Schema) (o : Order) (b : Book) (since : List Entry) (p : Reorderin
     by_trace (stop c w) (stopped h) = refused (body y.work) (h y.work (λ u q. refl) refl)
       where
         refused : (r : Result) → Stops c r → AlikeTurns o (Refused c, cleared x) (conclude s r y)
+        refused (go _) h = elim h [ ]
         refused (stop c w') stops = record { answer = refl; books = alike_cleared o alike }
 
     pub alike_statement : AlikeTurns o (statement s body x) (statement s body y)

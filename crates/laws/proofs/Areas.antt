@@ -40,7 +40,7 @@ unfolding run_all
 area_run_lem v i [] = refl
 area_run_lem {s} v {b} i (c ∷ cs) =
     rw (area_step_lem v i.now.good c)
-    (ap {B = List Logged × List ℤ} (λ r. ((c, (step s c b).0) ∷ r.0, r.1)) (area_run_lem v (keep_call v i c (outcome v i.now.good c) refl) cs))
+    (ap {B = List Logged × List ℤ} (λ r. ((c, (step s c b).0) ∷ r.0, r.1)) (area_run_lem v {b = (step s c b).1} (keep_call v i c (outcome v i.now.good c) refl) cs))
 
 -- under an accepted schema
 module _ (bs : List ℕ) (accepted : check_schema bs ≡ Accepted) where

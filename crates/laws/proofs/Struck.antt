@@ -233,7 +233,7 @@ keep_all : {s : Schema} {start : Book} → Valid s → {b : Book} {line : List L
     → let r : List Logged × Book = run s cs b in let k : Struck = marks r.0 (record { line = line; pile = pile }) in Inv s start r.1 k.line k.pile
 unfolding run_all marks
 keep_all valid v [] = v
-keep_all {s} {start} valid {b} v (c ∷ cs) = keep_all valid (keep_call valid v c (outcome valid v.now.good c) refl) cs
+keep_all {s} {start} valid {b} v (c ∷ cs) = keep_all valid {b = (step s c b).1} (keep_call valid v c (outcome valid v.now.good c) refl) cs
 
 module _ {s : Schema} {start : Book} (valid : Valid s) (good : Good s start) (none_open : start.levels ≡ []) where
   pub empty : Inv s start start [] []
