@@ -36,7 +36,7 @@ has_old_key k vs row = has_key k.folds k.child_columns vs row && all (holds_day 
 unfoldable pub child_has_key : ForeignKey → List ℤ → Tables → ℕ → Bool
 child_has_key k vs tabs i = has_old_key k vs (row_at k.child i tabs)
 
--- `rowTurn` and `children` of a row change, with the values of the old key in place of the old row
+-- `row_turn` and `children` of a row change, with the values of the old key in place of the old row
 module _ (change : Change) (s : Schema) (new : Row) where
   unfoldable pub turn_by_values : ForeignKey → List ℤ → ℕ → Work → Result
   turn_by_values k vs i w = given (child_has_key k vs w.tabs i) (taken change s new (action_of new k) k i (image k.child i w.tabs)) w

@@ -43,7 +43,7 @@ module _ (t : ℕ) (k : ForeignKey) where
   unfolding whole_at window_at broken_at
   not_touched h = (sym (rw h), (sym (rw h), sym (rw h)))
 
-  -- one that touches it is in those that `withKey` puts it in
+  -- one that touches it is in those that `with_key` puts it in
   pub touched : touches t k ≡ true → (not k.broken ≡ whole_at t k) × ((not k.broken && eqb (length k.windows) 1 ≡ window_at t k) × (k.broken ≡ broken_at t k))
   unfolding whole_at window_at broken_at
   touched h = (sym (rw h), (sym (rw h), sym (rw h)))

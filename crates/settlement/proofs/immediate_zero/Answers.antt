@@ -1,3 +1,4 @@
+use Rattle.rules.specs.Statement.{immediate_zero}
 use mathlib.Core.Path.{◌≡◌, refl, sym, ap, ap₂, ◌∙◌}
 use mathlib.Core.Bool.{true, false, ◌||◌}
 use mathlib.Core.List.{List}
@@ -32,7 +33,6 @@ returns-then-not-is_deferred-same_word c =
     let loop_test = c.loop-k-test in
     let v = c.v-1 in
     let is_deferred = c.is_deferred in
-    let same_word_lem = c.same_word in
     let sc : Schema = schema_of c.args.schema.now in
     let ks : List ForeignKey = sc.keys in
     let xs : List ℤ = c.args.kept in
@@ -40,7 +40,7 @@ returns-then-not-is_deferred-same_word c =
     let h : k < length ks = omega (arith, loop.invariant.1.0, loop_test.true) in
     let l : k < length xs = search rules in
     let e : ((key_of sc k).deferred || same_word (pos 0) (get_or xs k (pos 0))) ≡ false
-    = ap₂ (λ a b. a || b) (sym is_deferred.ensures) (ap (same_word (pos 0)) (sym (back (get_or xs k (pos 0)) v.given)) ∙ sym same_word.ensures) ∙ c.if-not-is_deferred-same_word.true in
+    = ap₂ (λ a b. a || b) (sym is_deferred.ensures) (ap (same_word (pos 0)) (sym (back (get_or xs k (pos 0)) v.given)) ∙ sym c.same_word.ensures) ∙ c.if-not-is_deferred-same_word.true in
     sym (loop.invariant.1.1.1 ∙ law.immediate_miss ks xs k h l e)
 
 pub loop-k-preserved : goal.loop-k-preserved
@@ -49,7 +49,6 @@ loop-k-preserved c =
     let loop_test = c.loop-k-test in
     let v = c.v-1 in
     let is_deferred = c.is_deferred in
-    let same_word_lem = c.same_word in
     let sc : Schema = schema_of c.args.schema.now in
     let ks : List ForeignKey = sc.keys in
     let xs : List ℤ = c.args.kept in
@@ -57,7 +56,7 @@ loop-k-preserved c =
     let h : k < length ks = omega (arith, loop.invariant.1.0, loop_test.true) in
     let l : k < length xs = search rules in
     let e : ((key_of sc k).deferred || same_word (pos 0) (get_or xs k (pos 0))) ≡ true
-    = ap₂ (λ a b. a || b) (sym is_deferred.ensures) (ap (same_word (pos 0)) (sym (back (get_or xs k (pos 0)) v.given)) ∙ sym same_word.ensures) ∙ c.if-not-is_deferred-same_word.false in
+    = ap₂ (λ a b. a || b) (sym is_deferred.ensures) (ap (same_word (pos 0)) (sym (back (get_or xs k (pos 0)) v.given)) ∙ sym c.same_word.ensures) ∙ c.if-not-is_deferred-same_word.false in
     (search rules, (loop.invariant.1.0, (loop.invariant.1.1.0, loop.invariant.1.1.1 ∙ law.immediate_more ks xs k h l e)))
 
 pub returns : goal.returns

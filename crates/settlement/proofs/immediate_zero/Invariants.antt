@@ -1,3 +1,4 @@
+use Rattle.rules.specs.Statement.{immediate_zero}
 use mathlib.Core.Path.{◌≡◌, refl, sym, ap, ap₂, ◌∙◌}
 use mathlib.Core.Bool.{true, false, ◌||◌}
 use mathlib.Core.List.{List}
