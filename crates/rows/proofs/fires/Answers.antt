@@ -5,7 +5,6 @@ use Rattle.schema.specs.Fields.{schema_of}
 use Rattle.bridge.proofs.MapLaws.{child_plain}
 use Rattle.rows.proofs.TableLaws.{parent_columns, parent_wide}
 use Rattle.rows.proofs.ActionLaws.{fires_rest}
-use borrow.Author.Rules.{rules}
 use Rattle.rows.proofs.fires.Goals as goal
 
 pub key_folds-folded-requires : goal.key_folds-folded-requires

@@ -1,10 +1,6 @@
 use borrow.Author.Rules.{rules}
 use mathlib.Core.Path.{◌≡◌}
-use Prim.Native.Nat.{◌-◌, ◌≤◌}
 use native.Mathlib.Omega.{arith}
-use lib.ListN.{get_or}
-use Rattle.schema.specs.Bytes.{bit}
-use Rattle.schema.specs.Marks.{Marks}
 use Rattle.schema.proofs.MaskLaws.{marks_start, marks_more}
 use Rattle.rows.proofs.FoldLaws.{folds_marked}
 use Rattle.rows.proofs.folds_among.Goals as goal

@@ -1,6 +1,4 @@
 use mathlib.Core.Path.{sym, ap, ◌∙◌}
-use borrow.Author.Rules.{rules}
-use borrow.Author.Tests.{not-true, not-false}
 use Rattle.rules.specs.Rows.{live_state}
 use Rattle.rows.proofs.CellLaws.{live_in}
 use Rattle.rows.proofs.SoughtLaws.{sought_not, sought_live}

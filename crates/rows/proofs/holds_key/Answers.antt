@@ -1,18 +1,14 @@
 use borrow.Author.Rules.{rules}
-use mathlib.Core.Path.{◌≡◌, refl, sym, ◌∙◌, ap₂}
+use mathlib.Core.Path.{refl, sym, ◌∙◌, ap₂}
 use mathlib.Core.Bool.{Bool, false}
-use Prim.Native.Nat.{◌-◌, ◌≤◌}
 use native.Mathlib.Omega.{arith}
-use borrow.Author.Tests.{not-true, not-false}
 use lib.IntN.{ℤ}
-use lib.ListN.{get_or, take, drop}
+use lib.ListN.{get_or}
 use Rattle.words.proofs.Signed.{back}
 use Rattle.rules.specs.Lists.{𝟘}
 use Rattle.rules.specs.Values.{folded}
 use Rattle.rules.specs.Found.{cell_is}
-use Rattle.rules.specs.KeyValues.{holds_key}
 use Rattle.bridge.specs.Ready.{row_in}
-use Rattle.rows.specs.KeyColumns.{folds_in}
 use Rattle.rows.proofs.SoughtLaws.{key_none, key_miss, key_hit}
 use Rattle.rows.proofs.holds_key.Goals as goal
 

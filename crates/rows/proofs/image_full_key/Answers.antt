@@ -1,7 +1,5 @@
 use mathlib.Core.Path.{sym, ap, ◌∙◌}
 use mathlib.Core.Bool.{not}
-use borrow.Author.Rules.{rules}
-use borrow.Author.Tests.{not-true, not-false}
 use Rattle.words.proofs.Signed.{back}
 use Rattle.rules.specs.Values.{nat_of}
 use Rattle.rows.proofs.CellLaws.{full_vacant, full_live}

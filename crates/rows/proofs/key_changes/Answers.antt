@@ -1,10 +1,8 @@
 use mathlib.Core.Path.{◌≡◌, sym, ap, ◌∙◌}
 use mathlib.Core.Bool.{true, false, not}
-use borrow.Author.Tests.{not-true, not-false}
 use lib.ListN.{take}
 use Rattle.rules.specs.Rows.{live}
 use Rattle.rules.specs.Keys.{full_key}
-use borrow.Author.Rules.{rules}
 use Rattle.rows.proofs.key_changes.Goals as goal
 
 pub returns-then-not-image_full_key : goal.returns-then-not-image_full_key

@@ -1,7 +1,6 @@
 use mathlib.Core.Path.{ap, ◌∙◌}
 use lib.ListN.{length}
 use Rattle.bridge.proofs.MapLaws.{child_plain}
-use borrow.Author.Rules.{rules}
 use Rattle.rows.proofs.key_pairs.Goals as goal
 
 pub pairs_of-requires : goal.pairs_of-requires

@@ -1,11 +1,10 @@
 use borrow.Author.Rules.{rules}
 use mathlib.Core.Path.{◌≡◌, ap₂, ◌∙◌}
-use Prim.Native.Nat.{◌-◌, ◌≤◌}
 use native.Mathlib.Omega.{arith}
-use lib.ListN.{length, length-set}
+use lib.ListN.{length-set}
 use Rattle.words.proofs.Signed.{back}
 use Rattle.rules.specs.Values.{folded}
-use Rattle.rows.proofs.FoldLaws.{Gathered, gathered_more, gathered_all}
+use Rattle.rows.proofs.FoldLaws.{gathered_more, gathered_all}
 use Rattle.rows.proofs.key_values.Goals as goal
 
 pub loop-i-init : goal.loop-i-init

@@ -1,11 +1,7 @@
-use borrow.Author.Rules.{rules}
-use mathlib.Core.Path.{◌≡◌, ap₂, ◌∙◌}
+use mathlib.Core.Path.{◌≡◌}
 use Prim.Native.Nat.{◌-◌, ◌≤◌}
-use native.Mathlib.Omega.{arith}
-use lib.ListN.{length, length-set}
-use Rattle.words.proofs.Signed.{back}
-use Rattle.rules.specs.Values.{folded}
-use Rattle.rows.proofs.FoldLaws.{Gathered, gathered_more, gathered_all}
+use lib.ListN.{length}
+use Rattle.rows.proofs.FoldLaws.{Gathered}
 use Rattle.rows.proofs.key_values.Given as goal
 
 abbrev pub invariant-loop-i : goal.invariant-loop-i

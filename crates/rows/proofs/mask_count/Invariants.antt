@@ -1,10 +1,7 @@
 use mathlib.Core.Path.{◌≡◌}
 use Prim.Native.Nat.{◌+◌, ◌-◌, ◌≤◌}
-use native.Mathlib.Omega.{arith}
-use borrow.Author.Rules.{rules}
 use lib.ListN.{length}
 use Rattle.rules.specs.Keys.{mask_columns, mask_columns_from}
-use Rattle.rows.proofs.MaskLaws.{number_start, number_end, number_step}
 use Rattle.rows.proofs.mask_count.Given as goal
 
 abbrev pub invariant-loop-i : goal.invariant-loop-i

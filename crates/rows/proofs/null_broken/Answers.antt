@@ -1,6 +1,5 @@
 use mathlib.Core.Path.{◌≡◌, sym, ◌∙◌}
 use mathlib.Core.Bool.{true, false}
-use borrow.Author.Rules.{rules}
 use Rattle.schema.specs.Bytes.{bit}
 use Rattle.rows.proofs.null_broken.Goals as goal
 

@@ -1,11 +1,10 @@
 use mathlib.Core.Path.{◌≡◌, sym}
-use Prim.Native.Nat.{ℕ, ◌+◌, ◌-◌, ◌≤◌}
+use Prim.Native.Nat.{ℕ}
 use native.Mathlib.Omega.{arith}
 use borrow.Author.Rules.{rules}
-use lib.ListN.{length, get_or, take, drop}
+use lib.ListN.{length, get_or, take}
 use lib.Seq.{length-take-le, get_or-take}
 use Rattle.schema.specs.Bytes.{bit}
-use Rattle.rules.specs.Lists.{count}
 use Rattle.bridge.proofs.LoopLaws.{count_none, count_more}
 use Rattle.rows.proofs.null_columns.Goals as goal
 

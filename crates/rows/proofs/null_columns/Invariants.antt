@@ -1,12 +1,8 @@
-use mathlib.Core.Path.{◌≡◌, sym}
+use mathlib.Core.Path.{◌≡◌}
 use Prim.Native.Nat.{ℕ, ◌+◌, ◌-◌, ◌≤◌}
-use native.Mathlib.Omega.{arith}
-use borrow.Author.Rules.{rules}
-use lib.ListN.{length, get_or, take, drop}
-use lib.Seq.{length-take-le, get_or-take}
+use lib.ListN.{take, drop}
 use Rattle.schema.specs.Bytes.{bit}
 use Rattle.rules.specs.Lists.{count}
-use Rattle.bridge.proofs.LoopLaws.{count_none, count_more}
 use Rattle.rows.proofs.null_columns.Given as goal
 
 abbrev pub invariant-loop-i : goal.invariant-loop-i

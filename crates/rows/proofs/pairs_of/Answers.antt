@@ -1,6 +1,5 @@
 use mathlib.Core.Path.{sym}
 use Rattle.rows.proofs.TableLaws.{parent_columns, key_columns}
-use borrow.Author.Rules.{rules}
 use Rattle.rows.proofs.pairs_of.Goals as goal
 
 pub key_folds-folded-requires : goal.key_folds-folded-requires

@@ -1,14 +1,12 @@
 use mathlib.Core.Path.{sym, ap, ap₂, ◌∙◌}
 use mathlib.Core.Bool.{Bool, not, ◌&&◌}
 use Prim.Native.Nat.{◌+◌}
-use borrow.Author.Tests.{not-true, not-false}
 use lib.ListN.{get_or}
 use Rattle.words.proofs.Signed.{back}
 use Rattle.schema.specs.Bytes.{bit}
 use Rattle.rules.specs.Lists.{𝟘}
 use Rattle.rules.specs.Values.{nat_of, same_word, folded}
 use Rattle.rows.proofs.ActionLaws.{cell_differs, cell_same}
-use borrow.Author.Rules.{rules}
 use Rattle.rows.proofs.same_cell.Goals as goal
 
 pub returns-then-not-same_word : goal.returns-then-not-same_word

@@ -1,12 +1,9 @@
 use borrow.Author.Rules.{rules}
-use mathlib.Core.Path.{◌≡◌, refl, sym, ap, ◌∙◌}
+use mathlib.Core.Path.{refl, sym, ap, ◌∙◌}
 use mathlib.Core.Bool.{Bool}
-use Prim.Native.Nat.{◌-◌, ◌≤◌}
 use native.Mathlib.Omega.{arith}
-use borrow.Author.Tests.{not-true, not-false}
-use lib.ListN.{get_or, take, drop}
-use Rattle.rules.specs.Keys.{same_cell, same_key}
-use Rattle.rows.specs.KeyColumns.{folds_in}
+use lib.ListN.{get_or}
+use Rattle.rules.specs.Keys.{same_cell}
 use Rattle.rows.proofs.ActionLaws.{same_none, same_miss, same_hit}
 use Rattle.rows.proofs.same_key.Goals as goal
 

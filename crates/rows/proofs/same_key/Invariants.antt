@@ -1,13 +1,8 @@
-use borrow.Author.Rules.{rules}
-use mathlib.Core.Path.{◌≡◌, refl, sym, ap, ◌∙◌}
-use mathlib.Core.Bool.{Bool}
+use mathlib.Core.Path.{◌≡◌}
 use Prim.Native.Nat.{◌-◌, ◌≤◌}
-use native.Mathlib.Omega.{arith}
-use borrow.Author.Tests.{not-true, not-false}
-use lib.ListN.{get_or, take, drop}
-use Rattle.rules.specs.Keys.{same_cell, same_key}
+use lib.ListN.{take, drop}
+use Rattle.rules.specs.Keys.{same_key}
 use Rattle.rows.specs.KeyColumns.{folds_in}
-use Rattle.rows.proofs.ActionLaws.{same_none, same_miss, same_hit}
 use Rattle.rows.proofs.same_key.Given as goal
 
 abbrev pub invariant-loop-i : goal.invariant-loop-i

@@ -1,11 +1,10 @@
 use borrow.Author.Rules.{rules}
 use mathlib.Core.Path.{◌≡◌, refl, sym, ◌∙◌}
-use Prim.Native.Nat.{ℕ, ◌-◌, ◌≤◌}
+use Prim.Native.Nat.{ℕ}
 use native.Mathlib.Omega.{arith}
-use lib.ListN.{length, get_or, take, drop}
+use lib.ListN.{length, get_or, take}
 use lib.Seq.{length-take-le, get_or-take}
 use Rattle.schema.specs.Bytes.{bit}
-use Rattle.rules.specs.Lists.{any}
 use Rattle.bridge.proofs.LoopLaws.{any_none, any_hit, any_miss}
 use Rattle.rows.proofs.some_null.Goals as goal
 

@@ -1,12 +1,8 @@
-use borrow.Author.Rules.{rules}
-use mathlib.Core.Path.{◌≡◌, refl, sym, ◌∙◌}
+use mathlib.Core.Path.{◌≡◌}
 use Prim.Native.Nat.{ℕ, ◌-◌, ◌≤◌}
-use native.Mathlib.Omega.{arith}
-use lib.ListN.{length, get_or, take, drop}
-use lib.Seq.{length-take-le, get_or-take}
+use lib.ListN.{take, drop}
 use Rattle.schema.specs.Bytes.{bit}
 use Rattle.rules.specs.Lists.{any}
-use Rattle.bridge.proofs.LoopLaws.{any_none, any_hit, any_miss}
 use Rattle.rows.proofs.some_null.Given as goal
 
 abbrev pub invariant-loop-i : goal.invariant-loop-i
