@@ -1,6 +1,5 @@
 use mathlib.Core.Path.{ap, ◌∙◌}
 use Prim.Native.Nat.{ℕ, ◌+◌, ◌%◌}
-use borrow.Author.Rules.{rules}
 use lib.IntN.{pos}
 use Rattle.words.proofs.Signed.{back}
 use Rattle.rules.specs.Values.{nat_of}

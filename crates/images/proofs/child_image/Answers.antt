@@ -1,5 +1,4 @@
 use mathlib.Core.Path.{ap, ◌∙◌}
-use borrow.Author.Rules.{rules}
 use Rattle.schema.specs.Records.{key_of}
 use Rattle.schema.specs.Fields.{schema_of}
 use Rattle.rules.specs.Rows.{normal}

@@ -1,5 +1,4 @@
 use mathlib.Core.Path.{◌∙◌}
-use borrow.Author.Rules.{rules}
 use Rattle.words.proofs.Signed.{back}
 use Rattle.images.proofs.ImageLaws.{value_none, value_restrict, value_null, value_default, value_cascade}
 use Rattle.images.proofs.filler.Goals as goal

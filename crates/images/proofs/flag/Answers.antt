@@ -1,7 +1,6 @@
 use mathlib.Core.Path.{sym, ap, ◌∙◌}
 use Prim.Native.Nat.{ℕ, ◌+◌, ◌-◌}
 use native.Mathlib.Omega.{arith}
-use borrow.Author.Rules.{rules}
 use Rattle.images.proofs.MaskLaws.{power_within, bit_le, flag_kept, flag_added, flag_removed, flag_absent}
 use Rattle.images.proofs.flag.Goals as goal
 

@@ -1,5 +1,4 @@
 use mathlib.Core.Path.{sym, ◌∙◌}
-use borrow.Author.Rules.{rules}
 use Rattle.words.proofs.Signed.{back}
 use Rattle.images.proofs.ImageLaws.{held_null, held_value}
 use Rattle.images.proofs.held.Goals as goal

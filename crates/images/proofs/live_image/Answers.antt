@@ -1,5 +1,4 @@
 use mathlib.Core.Path.{ap₂, ◌∙◌}
-use borrow.Author.Rules.{rules}
 use Rattle.rules.specs.Rows.{live_image}
 use Rattle.images.proofs.ImageLaws.{call_image}
 use Rattle.images.proofs.live_image.Goals as goal

@@ -1,15 +1,8 @@
-use mathlib.Core.Path.{◌≡◌, refl, sym, ap, ◌∙◌}
-use mathlib.Core.List.{[], ◌∷◌, ◌++◌}
-use Prim.Native.Nat.{ℕ, ◌+◌, ◌-◌, ◌≤◌, ◌<◌, ◌%◌}
-use native.Mathlib.Omega.{arith}
-use borrow.Author.Rules.{rules}
-use lib.IntN.{ℤ, pos}
-use lib.ListN.{length, take, drop, length-set}
-use Rattle.words.proofs.Signed.{back}
-use native.Mathlib.Nat.{mod-lt}
+use mathlib.Core.Path.{◌≡◌}
+use mathlib.Core.List.{◌++◌}
+use Prim.Native.Nat.{◌+◌, ◌-◌, ◌≤◌}
+use lib.ListN.{length, take, drop}
 use Rattle.rules.specs.Rows.{held}
-use Rattle.images.proofs.MaskLaws.{power_within}
-use Rattle.images.proofs.ImageLaws.{held_start, held_step, held_end}
 use Rattle.images.proofs.live_row.Given as goal
 
 abbrev pub invariant-loop-i : goal.invariant-loop-i

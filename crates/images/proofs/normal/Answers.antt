@@ -1,5 +1,4 @@
 use mathlib.Core.Path.{ap, ◌∙◌}
-use borrow.Author.Rules.{rules}
 use Rattle.words.proofs.Signed.{back}
 use Rattle.rules.specs.Values.{nat_of}
 use Rattle.images.proofs.ImageLaws.{normal_is}

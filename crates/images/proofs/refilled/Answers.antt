@@ -1,11 +1,6 @@
-use mathlib.Core.Path.{◌≡◌, refl, sym, ◌∙◌}
-use Prim.Native.Nat.{◌-◌, ◌≤◌}
+use mathlib.Core.Path.{refl, sym, ◌∙◌}
 use native.Mathlib.Omega.{arith}
-use lib.ListN.{take, drop}
 use Rattle.words.proofs.Signed.{back}
-use Rattle.schema.specs.Records.{table_of}
-use Rattle.schema.specs.Fields.{schema_of}
-use Rattle.rules.specs.Change.{refilled}
 use Rattle.images.proofs.ImageLaws.{fill_none, fill_step}
 use borrow.Author.Rules.{rules}
 use Rattle.images.proofs.refilled.Goals as goal

@@ -1,13 +1,9 @@
-use mathlib.Core.Path.{◌≡◌, refl, sym, ◌∙◌}
+use mathlib.Core.Path.{◌≡◌}
 use Prim.Native.Nat.{◌-◌, ◌≤◌}
-use native.Mathlib.Omega.{arith}
 use lib.ListN.{take, drop}
-use Rattle.words.proofs.Signed.{back}
 use Rattle.schema.specs.Records.{table_of}
 use Rattle.schema.specs.Fields.{schema_of}
 use Rattle.rules.specs.Change.{refilled}
-use Rattle.images.proofs.ImageLaws.{fill_none, fill_step}
-use borrow.Author.Rules.{rules}
 use Rattle.images.proofs.refilled.Given as goal
 
 abbrev pub invariant-loop-i : goal.invariant-loop-i

@@ -1,6 +1,5 @@
 use Rattle.words.proofs.Signed.{back}
 use Rattle.images.proofs.ImageLaws.{row_set_is}
-use borrow.Author.Rules.{rules}
 use Rattle.images.proofs.row_set.Goals as goal
 
 pub returns : goal.returns

@@ -5,7 +5,6 @@ use Rattle.words.proofs.Signed.{back}
 use Rattle.rules.specs.Values.{nat_of}
 use Rattle.rules.specs.Change.{flag}
 use Rattle.images.proofs.ImageLaws.{cell_set}
-use borrow.Author.Rules.{rules}
 use Rattle.images.proofs.set_cell.Goals as goal
 
 pub returns : goal.returns
