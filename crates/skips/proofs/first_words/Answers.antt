@@ -4,7 +4,6 @@ use lib.ListN.{get_or}
 use Rattle.words.proofs.Signed.{back}
 use Rattle.rules.specs.Lists.{𝟘}
 use Rattle.skips.proofs.SkipLaws.{words_are}
-use borrow.Author.Rules.{rules}
 use Rattle.skips.proofs.first_words.Goals as goal
 
 pub overflow_add-c : goal.overflow_add-c

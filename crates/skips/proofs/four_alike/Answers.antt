@@ -1,7 +1,6 @@
 use mathlib.Core.Path.{sym, ◌∙◌}
 use Rattle.skips.specs.Skipped.{alike}
 use Rattle.skips.proofs.SkipLaws.{four_first, four_second, four_third, four_last}
-use borrow.Author.Rules.{rules}
 use Rattle.skips.proofs.four_alike.Goals as goal
 
 pub returns-then-is_alike : goal.returns-then-is_alike

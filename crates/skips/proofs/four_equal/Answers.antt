@@ -4,7 +4,6 @@ use Rattle.bridge.proofs.Tests.{or_same}
 use Rattle.words.proofs.Signed.{back}
 use Rattle.skips.specs.Skipped.{has_word, one_of_four}
 use Rattle.skips.proofs.SkipLaws.{four_is}
-use borrow.Author.Rules.{rules}
 use Rattle.skips.proofs.four_equal.Goals as goal
 
 pub returns : goal.returns

@@ -2,7 +2,6 @@ use mathlib.Core.Path.{sym, ◌∙◌}
 use Rattle.bridge.proofs.Tests.{or_same}
 use Rattle.skips.specs.Skipped.{has_masked}
 use Rattle.skips.proofs.SkipLaws.{four_is}
-use borrow.Author.Rules.{rules}
 use Rattle.skips.proofs.four_masked.Goals as goal
 
 pub returns : goal.returns

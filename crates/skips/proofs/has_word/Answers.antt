@@ -2,7 +2,6 @@ use mathlib.Core.Path.{◌∙◌, ap₂}
 use Rattle.rules.specs.Values.{same_word}
 use Rattle.words.proofs.Signed.{back}
 use Rattle.skips.proofs.SkipLaws.{word_is}
-use borrow.Author.Rules.{rules}
 use Rattle.skips.proofs.has_word.Goals as goal
 
 pub returns : goal.returns

@@ -3,7 +3,6 @@ use lib.IntN.{ℤ}
 use mir.Syntax.{w64}
 use mir.Val.{SFits}
 use mir.ValLaws.{to_z-of_z}
-use borrow.Author.Tests.{not-true, not-false}
 use Rattle.bridge.specs.Ready.{row_in}
 use Rattle.rules.specs.Rows.{Row}
 use Rattle.skips.specs.Skipped.{has_word}

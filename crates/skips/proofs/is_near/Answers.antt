@@ -1,7 +1,5 @@
 use mathlib.Core.Path.{sym, ◌∙◌}
-use borrow.Author.Tests.{not-true, not-false}
 use Rattle.skips.proofs.SkipLaws.{first_far, second_near}
-use borrow.Author.Rules.{rules}
 use Rattle.skips.proofs.is_near.Goals as goal
 
 pub returns-then-not-has_masked : goal.returns-then-not-has_masked

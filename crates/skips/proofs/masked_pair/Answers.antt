@@ -1,5 +1,4 @@
 use Rattle.skips.proofs.SkipLaws.{pair_are}
-use borrow.Author.Rules.{rules}
 use Rattle.skips.proofs.masked_pair.Goals as goal
 
 pub returns : goal.returns

@@ -5,7 +5,6 @@ use Rattle.words.proofs.Signed.{back}
 use Rattle.rules.specs.Lists.{𝟘}
 use Rattle.folding.specs.Masks.{masked, first_mask}
 use Rattle.skips.proofs.SkipLaws.{masked_are}
-use borrow.Author.Rules.{rules}
 use Rattle.skips.proofs.masked_word.Goals as goal
 
 pub overflow_add-c : goal.overflow_add-c

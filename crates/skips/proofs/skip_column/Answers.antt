@@ -1,11 +1,9 @@
 use mathlib.Core.Path.{sym, ◌∙◌, subst}
-use Prim.Native.Nat.{◌-◌}
 use mir.Syntax.{w64}
 use mir.Val.{to_z, of_z}
 use native.Mathlib.Omega.{arith}
 use lib.IntN.{ℤ}
 use Rattle.words.proofs.Signed.{back}
-use Rattle.rows.proofs.TableLaws.{rows_from}
 use Rattle.skips.specs.Skipped.{has_word, Skipped}
 use Rattle.skips.proofs.SkipLaws.{skip_start, skip_four, rows_fit}
 use Rattle.skips.proofs.skip_column.Goals as goal

@@ -1,8 +1,6 @@
 use mathlib.Core.Path.{sym, ◌∙◌}
-use Prim.Native.Nat.{◌-◌}
 use native.Mathlib.Omega.{arith}
-use Rattle.rows.proofs.TableLaws.{rows_from}
-use Rattle.skips.specs.Skipped.{alike, Skipped}
+use Rattle.skips.specs.Skipped.{alike}
 use Rattle.skips.proofs.SkipLaws.{skip_start, skip_four, rows_fit}
 use Rattle.skips.proofs.skip_rows.Goals as goal
 
