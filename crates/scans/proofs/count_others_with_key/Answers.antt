@@ -1,7 +1,6 @@
 use mathlib.Core.Path.{◌∙◌, ap₂}
 use Prim.Native.Nat.{◌+◌}
 use native.Mathlib.Omega.{arith}
-use borrow.Author.Rules.{rules}
 use Rattle.rows.specs.Sought.{has_sought}
 use Rattle.scans.proofs.ScanLaws.{before_ready, after_ready, count_parts, parts_few}
 use Rattle.scans.proofs.count_others_with_key.Goals as goal

@@ -1,12 +1,6 @@
-use mathlib.Core.Path.{◌≡◌, sym, ◌∙◌}
-use mathlib.Core.Bool.{true}
-use mathlib.Core.List.{[]}
-use Prim.Native.Nat.{◌+◌, ◌-◌, ◌≤◌, ◌<◌}
+use mathlib.Core.Path.{sym, ◌∙◌}
 use native.Mathlib.Nat.{zero-add}
 use native.Mathlib.Omega.{arith}
-use lib.ListN.{get_or, drop}
-use Rattle.rules.specs.Lists.{count}
-use Rattle.rows.specs.Standing.{rows_in}
 use Rattle.rows.specs.Sought.{has_sought}
 use Rattle.scans.proofs.FirstLaws.{count_next, count_first, count_end}
 use Rattle.scans.proofs.count_with_key.Goals as goal

@@ -1,14 +1,11 @@
-use mathlib.Core.Path.{◌≡◌, sym, ◌∙◌}
+use mathlib.Core.Path.{◌≡◌}
 use mathlib.Core.Bool.{true}
 use mathlib.Core.List.{[]}
 use Prim.Native.Nat.{◌+◌, ◌-◌, ◌≤◌, ◌<◌}
-use native.Mathlib.Nat.{zero-add}
-use native.Mathlib.Omega.{arith}
 use lib.ListN.{get_or, drop}
 use Rattle.rules.specs.Lists.{count}
 use Rattle.rows.specs.Standing.{rows_in}
 use Rattle.rows.specs.Sought.{has_sought}
-use Rattle.scans.proofs.FirstLaws.{count_next, count_first, count_end}
 use Rattle.scans.proofs.count_with_key.Given as goal
 
 -- row j is the next that has the key, or the end; m of those below it have it

@@ -2,14 +2,9 @@ use mathlib.Core.Path.{◌≡◌}
 use mathlib.Core.Bool.{false}
 use mathlib.Core.List.{[]}
 use Prim.Native.Nat.{ℕ, ◌-◌, ◌<◌, ◌≤◌}
-use native.Mathlib.Omega.{arith}
 use lib.ListN.{get_or}
 use Rattle.rows.specs.Standing.{rows_in}
-use Rattle.rows.proofs.SoughtLaws.{widen_sought}
-use Rattle.rows.proofs.TableLaws.{row_at_lem}
 use Rattle.rows.specs.Sought.{has_sought}
-use Rattle.skips.proofs.SkipLaws.{words_within, key_passed}
-use Rattle.scans.proofs.FirstLaws.{tested, none_more, first_stop, first_none}
 use Rattle.scans.proofs.first_with_composite.Given as goal
 
 abbrev pub invariant-loop-j : goal.invariant-loop-j

@@ -6,7 +6,6 @@ use Rattle.words.proofs.Signed.{back}
 use Rattle.rules.specs.Lists.{𝟘}
 use Rattle.rows.specs.Sought.{has_value}
 use Rattle.scans.proofs.FirstLaws.{first_same, one_value}
-use borrow.Author.Rules.{rules}
 use Rattle.scans.proofs.first_with_plain.Goals as goal
 
 pub first_with_value-requires : goal.first_with_value-requires

@@ -1,15 +1,10 @@
-use mathlib.Core.Path.{◌≡◌, subst}
-use mathlib.Core.Bool.{false}
-use mathlib.Core.List.{[]}
-use Prim.Native.Nat.{ℕ, ◌-◌, ◌<◌, ◌≤◌}
+use mathlib.Core.Path.{subst}
 use mir.Syntax.{w64}
 use mir.Val.{to_z, of_z}
 use native.Mathlib.Omega.{arith}
 use lib.IntN.{ℤ}
-use lib.ListN.{get_or}
 use Rattle.words.proofs.Signed.{back}
 use Rattle.rows.specs.Sought.{has_value}
-use Rattle.rows.specs.Standing.{rows_in}
 use Rattle.rows.proofs.TableLaws.{row_at_lem}
 use Rattle.skips.proofs.SkipLaws.{value_passed}
 use Rattle.scans.specs.FirstFrom.{FirstRow}

@@ -1,5 +1,4 @@
 use mathlib.Core.Path.{sym, ◌∙◌}
-use borrow.Author.Tests.{not-true}
 use Rattle.skips.proofs.SkipLaws.{words_within, without}
 use Rattle.scans.proofs.has_composite.Goals as goal
 

@@ -1,5 +1,4 @@
 use mathlib.Core.Path.{sym, ◌∙◌}
-use borrow.Author.Tests.{not-true}
 use Rattle.skips.proofs.SkipLaws.{pair_within, far_without}
 use Rattle.scans.proofs.has_folded.Goals as goal
 

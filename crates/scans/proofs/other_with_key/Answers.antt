@@ -1,5 +1,4 @@
 use mathlib.Core.Path.{sym, ◌∙◌}
-use borrow.Author.Rules.{rules}
 use Rattle.rows.specs.Sought.{has_sought}
 use Rattle.scans.proofs.ScanLaws.{before_ready, after_ready, any_before, any_after}
 use Rattle.scans.proofs.other_with_key.Goals as goal

@@ -1,7 +1,6 @@
 use mathlib.Core.Path.{◌≡◌, refl}
 use Prim.Native.Nat.{suc, ◌+◌}
 use native.Mathlib.Omega.{arith}
-use borrow.Author.Rules.{rules}
 use Rattle.rows.proofs.TableLaws.{row_at_lem}
 use Rattle.scans.specs.Parts.{rows_after}
 use Rattle.scans.proofs.rows_after.Goals as goal
