@@ -5,7 +5,6 @@ use mathlib.Core.Bool.{Bool, true, false, not, ◌&&◌}
 use mathlib.Core.List.{List, []}
 use Prim.Native.Nat.{ℕ, ◌≤◌}
 use native.Mathlib.Omega.{arith}
-use borrow.Author.Tests.{not-true, not-false}
 use lib.ListN.{length, take}
 use lib.Seq.{length-take-le}
 use Rattle.schema.specs.Records.{ForeignKey, child_key}
@@ -46,9 +45,9 @@ module _ (k : ForeignKey) (plain : k.windows ≡ []) {cs : List ℕ} (e : cs ≡
     full_is : full_key (child_key k) x ≡ full
     full_is = sym (h ∙ ap (λ (ds : List ℕ). full_key ds x) key_is)
 
-    pub orphan_half : length k.child_columns ≡ length k.parent_columns → not full ≡ true → {half : Bool} → half ≡ half_due k.match cs x → half ≡ orphan k ys x
-    orphan_half same t g = g ∙ ap (λ (ds : List ℕ). half_due k.match ds x) key_is ∙ sym (half_orphan k same x whole ys (full_is ∙ not-true _ t))
+    pub orphan_half : length k.child_columns ≡ length k.parent_columns → full ≡ false → {half : Bool} → half ≡ half_due k.match cs x → half ≡ orphan k ys x
+    orphan_half same t g = g ∙ ap (λ (ds : List ℕ). half_due k.match ds x) key_is ∙ sym (half_orphan k same x whole ys (full_is ∙ t))
 
-    pub orphan_full : {served : Bool} → served ≡ any (serves k x) ys → not full ≡ false → not served ≡ orphan k ys x
+    pub orphan_full : {served : Bool} → served ≡ any (serves k x) ys → full ≡ true → not served ≡ orphan k ys x
     unfolding orphan
-    orphan_full g t = rw (whole_due k whole x, full_is ∙ not-false _ t) (ap not g)
+    orphan_full g t = rw (whole_due k whole x, full_is ∙ t) (ap not g)

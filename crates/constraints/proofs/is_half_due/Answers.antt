@@ -5,7 +5,6 @@ use Rattle.schema.specs.Records.{key_of}
 use Rattle.schema.specs.declared.Match.{Match}
 use Rattle.schema.specs.declared.Match.TheVariants.{Simple, Full}
 use Rattle.rules.specs.Keys.{half_due}
-use borrow.Author.Rules.{rules}
 use Rattle.constraints.proofs.is_half_due.Goals as goal
 
 pub returns-in-Simple : goal.returns-in-Simple

@@ -1,5 +1,4 @@
 use mathlib.Core.Path.{sym, ◌∙◌}
-use borrow.Author.Tests.{not-false}
 use Rattle.schema.proofs.FieldLaws.{same_width}
 use Rattle.rows.proofs.TableLaws.{child_wide}
 use Rattle.constraints.proofs.ServedLaws.{orphan_half, orphan_full}

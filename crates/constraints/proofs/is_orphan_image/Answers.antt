@@ -1,7 +1,5 @@
 use mathlib.Core.Path.{sym, ◌∙◌, subst}
 use Prim.Native.Nat.{ℕ}
-use borrow.Author.Rules.{rules}
-use borrow.Author.Tests.{not-false}
 use Rattle.rows.specs.Standing.{RowsOf}
 use Rattle.schema.proofs.FieldLaws.{same_width}
 use Rattle.rows.proofs.TableLaws.{child_wide, parent_table}

@@ -2,7 +2,6 @@ use Rattle.constraints.proofs.UniqueLaws.{mask_some, twice_except}
 use Rattle.rows.proofs.SoughtLaws.{sought_ready, any_sought}
 use mathlib.Core.Path.{sym, ◌∙◌}
 use borrow.Author.Rules.{rules}
-use borrow.Author.Tests.{not-true, not-false}
 use Rattle.rows.proofs.CellLaws.{widen}
 use Rattle.rows.proofs.MaskLaws.{mask_array, mask_null, mask_full, mask_none}
 use Rattle.constraints.proofs.mask_broken.Goals as goal

@@ -1,19 +1,13 @@
-use mathlib.Core.Path.{◌≡◌, sym, ap₂, ◌∙◌}
-use mathlib.Core.List.{List, []}
-use Prim.Native.Nat.{ℕ, ◌-◌, ◌≤◌}
-use native.Mathlib.Omega.{arith}
-use borrow.Author.Rules.{rules}
+use mathlib.Core.Path.{◌≡◌}
+use mathlib.Core.List.{[]}
+use Prim.Native.Nat.{◌-◌, ◌≤◌}
 use lib.ListN.{get_or, drop}
 use Rattle.schema.specs.Records.{table_of}
 use Rattle.schema.specs.Fields.{schema_of}
 use Rattle.rules.specs.Lists.{any}
-use Rattle.rules.specs.Rows.{Row}
 use Rattle.rules.specs.Change.{mask_broken, unique_broken}
 use Rattle.bridge.specs.Fit.{work_of}
 use Rattle.rows.specs.Standing.{rows_in}
-use Rattle.bridge.proofs.LoopLaws.{any_none, any_hit, any_miss}
-use Rattle.rows.proofs.MaskLaws.{unique_inside, masks_four, unique_masks}
-use Rattle.rows.proofs.TableLaws.{rows_are, standing}
 use Rattle.constraints.proofs.unique_broken.Given as goal
 
 abbrev pub invariant-loop-u : goal.invariant-loop-u
