@@ -1,10 +1,7 @@
-use mathlib.Core.Path.{◌≡◌, refl, sym, ◌∙◌}
+use mathlib.Core.Path.{◌≡◌}
 use Prim.Native.Nat.{◌-◌, ◌≤◌}
-use borrow.Author.Rules.{rules}
-use borrow.Author.Tests.{not-true, not-false}
 use Rattle.schema.specs.Ranges.{all_from}
 use Rattle.schema.specs.Check.{is_byte}
-use Rattle.schema.proofs.RangeLaws.{all_none, all_stop, all_go}
 use Rattle.schema_tables.proofs.all_bytes.Given as goal
 
 abbrev pub invariant-loop-i : goal.invariant-loop-i

@@ -4,10 +4,8 @@ use Prim.Native.Nat.{ℕ, ◌+◌, ◌*◌}
 use lib.Dec.{ltb, eqb}
 use Rattle.schema.specs.Bytes.{bit, word}
 use Rattle.schema.specs.Fields.{table_start, columns_of, default_null_of}
-use borrow.Author.Rules.{rules}
 use Rattle.schema_tables.proofs.default_rule.Goals as goal
 
--- src/lib.rt:204:1
 pub returns : goal.returns
 returns c =
     let s = c.args.s.now in

@@ -7,10 +7,8 @@ use mathlib.Core.Bool.{◌&&◌}
 use Prim.Native.Nat.{ℕ, ◌+◌, ◌*◌}
 use lib.Dec.{leb, eqb}
 use lib.ListN.{length}
-use borrow.Author.Rules.{rules}
 use Rattle.schema_tables.proofs.header_rest.Goals as goal
 
--- src/lib.rt:147:1
 pub returns : goal.returns
 unfolding header_rest every and_all
 returns c =

@@ -1,12 +1,9 @@
 use native.Mathlib.Omega.{arith}
 use Rattle.schema.proofs.CheckLaws.{header_short, header_is}
-use borrow.Author.Rules.{rules}
 use Rattle.schema_tables.proofs.header_rules.Goals as goal
 
--- src/lib.rt:168:9
 pub returns-then-s-lt16 : goal.returns-then-s-lt16
 returns-then-s-lt16 c = header_short _ c.if-s-lt16.true
 
--- src/lib.rt:164:1
 pub returns : goal.returns
 returns c = header_is _ (omega arith) c.starts_with.ensures c.header_rest.ensures

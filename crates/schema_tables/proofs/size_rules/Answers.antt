@@ -3,10 +3,8 @@ use Rattle.schema.specs.Check.{within, size_rules}
 use Rattle.schema.specs.Fields.{rows_of, columns_of}
 use mathlib.Core.Path.{◌≡◌, ap, ap₂, ◌∙◌}
 use mathlib.Core.Bool.{◌&&◌}
-use borrow.Author.Rules.{rules}
 use Rattle.schema_tables.proofs.size_rules.Goals as goal
 
--- src/lib.rt:228:1
 pub returns : goal.returns
 unfolding size_rules every and_all
 returns c =

@@ -1,13 +1,8 @@
-use mathlib.Core.Path.{◌≡◌, sym, ◌∙◌}
+use mathlib.Core.Path.{◌≡◌}
 use Prim.Native.Nat.{◌-◌, ◌≤◌}
-use native.Mathlib.Omega.{arith}
-use borrow.Author.Rules.{rules}
-use borrow.Author.Tests.{not-true, not-false, lt-leb}
 use lib.ListN.{length}
-use Rattle.schema.proofs.CheckLaws.{starts_is}
 use Rattle.schema.specs.Ranges.{all_from}
-use Rattle.schema.specs.Check.{same_at, starts_with}
-use Rattle.schema.proofs.RangeLaws.{all_start, all_none, all_stop, all_go}
+use Rattle.schema.specs.Check.{same_at}
 use Rattle.schema_tables.proofs.starts_with.Given as goal
 
 abbrev pub invariant-loop-i : goal.invariant-loop-i

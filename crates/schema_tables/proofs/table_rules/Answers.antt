@@ -3,24 +3,20 @@ use Rattle.schema.specs.Check
 use mathlib.Core.Path.{◌≡◌, sym, ap, ap₂, ◌∙◌}
 use mathlib.Core.Bool.{Bool, ◌&&◌}
 use Prim.Native.Nat.{ℕ, ◌+◌, ◌≤◌}
-use borrow.Author.Tests.{not-true, not-false}
 use Rattle.schema.specs.Fields
 use Rattle.schema.proofs.CheckLaws.{table_no, table_rest}
 use Rattle.schema.proofs.Formed.{sizes}
 use borrow.Author.Rules.{rules}
 use Rattle.schema_tables.proofs.table_rules.Goals as goal
 
--- src/lib.rt:241:9
 pub returns-then-not-size_rules : goal.returns-then-not-size_rules
 returns-then-not-size_rules c = table_no _ _ (sym c.size_rules.ensures ∙ c.if-not-size_rules.true)
 
--- src/lib.rt:245:5
 pub mask_rules-requires : goal.mask_rules-requires
 mask_rules-requires c =
     let size_rules = c.size_rules in
     let h : Fields.columns_of c.args.s.now c.args.t ≤ 8 = (sizes _ _ (sym size_rules.ensures ∙ c.if-not-size_rules.false)).columns.high in search rules
 
--- src/lib.rt:236:1
 pub returns : goal.returns
 unfolding Check.table_rest every and_all
 returns c =
