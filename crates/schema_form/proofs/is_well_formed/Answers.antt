@@ -4,37 +4,29 @@ use Rattle.schema.specs.Ranges.{all_from}
 use Rattle.schema.specs.Check
 use Rattle.schema.specs.Fields
 use native.Mathlib.Omega.{arith}
-use borrow.Author.Tests.{not-true, not-false}
-use borrow.Author.Rules.{rules}
 use Rattle.schema.proofs.CheckLaws.{well_no, well_rest}
 use Rattle.schema.proofs.Formed.{Header, header}
 use Rattle.schema_form.proofs.is_well_formed.Goals as goal
 use Rattle.schema_form.proofs.is_well_formed.Goals.{Else-not-header_rules}
 
--- src/lib.rt:399:9
 pub returns-then-not-header_rules : goal.returns-then-not-header_rules
 returns-then-not-header_rules c = well_no _ (sym c.header_rules.ensures ∙ c.if-not-header_rules.true)
 
--- src/lib.rt:401:9
 header_here : (c : Else-not-header_rules) → Header c.args.s.now
 header_here c = header _ (sym c.header_rules.ensures ∙ c.if-not-header_rules.false)
 
 pub half_at-tables-requires : goal.half_at-tables-requires
 half_at-tables-requires c = omega (arith, header_here (goal.at.half_at-tables-requires c).Else-not-header_rules)
 
--- src/lib.rt:402:9
 pub half_at-keys-requires : goal.half_at-keys-requires
 half_at-keys-requires c = omega (arith, header_here (goal.at.half_at-keys-requires c).Else-not-header_rules)
 
--- src/lib.rt:403:5
 pub all_tables-requires : goal.all_tables-requires
 all_tables-requires c = omega (arith, header_here (goal.at.all_tables-requires c).Else-not-header_rules)
 
--- src/lib.rt:403:29
 pub all_keys-requires : goal.all_keys-requires
 all_keys-requires c = omega (arith, header_here (goal.at.all_keys-requires c).Else-not-header_rules)
 
--- src/lib.rt:395:1
 pub returns : goal.returns
 returns c =
     let s = c.args.s.now in

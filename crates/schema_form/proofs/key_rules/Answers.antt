@@ -4,12 +4,10 @@ use mathlib.Core.Path.{◌≡◌, sym, ap, ap₂, ◌∙◌}
 use mathlib.Core.Bool.{◌&&◌}
 use Prim.Native.Nat.{ℕ, ◌+◌}
 use native.Mathlib.Omega.{arith}
-use borrow.Author.Tests.{not-true, not-false}
 use Rattle.schema.specs.Bytes
 use Rattle.schema.specs.Fields
 use Rattle.schema.proofs.CheckLaws.{key_no, key_rest}
 use Rattle.schema.proofs.Formed.{Codes, codes}
-use borrow.Author.Rules.{rules}
 use Rattle.schema_form.proofs.key_rules.Goals as goal
 use Rattle.schema_form.proofs.key_rules.Goals.{After-byte_at-n}
 

@@ -1,10 +1,7 @@
-use mathlib.Core.Path.{◌≡◌, sym, ◌∙◌}
+use mathlib.Core.Path.{◌≡◌}
 use Prim.Native.Nat.{◌-◌, ◌≤◌}
-use borrow.Author.Rules.{rules}
-use borrow.Author.Tests.{not-true, not-false}
 use Rattle.schema.specs.Ranges.{all_from}
-use Rattle.schema.specs.Check.{differ, new_column}
-use Rattle.schema.proofs.RangeLaws.{all_start, all_none, all_stop, all_go}
+use Rattle.schema.specs.Check.{differ}
 use Rattle.schema_form.proofs.new_column.Given as goal
 
 abbrev pub invariant-loop-j : goal.invariant-loop-j

@@ -5,7 +5,6 @@ use Prim.Native.Nat.{ℕ, ◌+◌}
 use Rattle.schema.specs.Bytes
 use Rattle.schema.specs.Fields
 use Rattle.schema.proofs.CheckLaws.{window_none, window_some}
-use borrow.Author.Rules.{rules}
 use Rattle.schema_form.proofs.windowed_rule.Goals as goal
 use Rattle.schema_form.proofs.windowed_rule.Goals.{After-byte_at}
 
