@@ -1,6 +1,4 @@
 use mathlib.Core.Path.{sym, ◌∙◌}
-use borrow.Author.Tests.{not-true, not-false}
-use borrow.Author.Rules.{rules}
 use Rattle.schema.proofs.CheckLaws.{answer_0, answer_1}
 use Rattle.schema_check.proofs.check_schema.Goals as goal
 
