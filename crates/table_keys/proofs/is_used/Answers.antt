@@ -1,7 +1,5 @@
 use mathlib.Core.Path.{sym, ◌∙◌}
 use native.Mathlib.Omega.{arith}
-use borrow.Author.Rules.{rules}
-use borrow.Author.Tests.{not-true, not-false}
 use Rattle.schema.proofs.SchemaLaws.{accepted_valid}
 use Rattle.table_keys.proofs.TouchLaws.{not_used, used_by, used}
 use Rattle.table_keys.proofs.is_used.Goals as goal

@@ -1,12 +1,11 @@
 use mathlib.Core.Path.{◌≡◌, sym, ◌∙◌}
-use mathlib.Core.Logic.{⊎_elim}
-use Prim.Native.Nat.{◌-◌, ◌≤◌}
 use native.Mathlib.Omega.{arith}
 use borrow.Author.Rules.{rules}
 use lib.ListN.{length}
 use Rattle.schema.specs.Fields.{schema_of}
-use Rattle.table_keys.proofs.TouchLaws.{KeysBelow, below_start, below_more, below_same, below_all}
+use Rattle.table_keys.proofs.TouchLaws.{below_start, below_more, below_same, below_all}
 use Rattle.table_keys.proofs.keys_of.Goals as goal
+use Rattle.table_keys.proofs.keys_of.Goals.{then-touches, else-touches}
 
 pub loop-k-init : goal.loop-k-init
 loop-k-init c = (search rules, below_start _ _)
@@ -24,10 +23,10 @@ loop-k-preserved c =
     let l = c.loop-k in
     let e = c.touches.ensures in (
       search rules,
-      ⊎_elim
-          (λ w. rw (w.2, w.1.ensures) (below_more _ _ l.k l.keys l.invariant.1 (sym e ∙ w.0.taken)))
-          (λ w. rw w.1 (below_same _ _ l.k l.keys l.invariant.1 (sym e ∙ w.0.left)))
-          c.if-touches.branch,
+      elim c.if-touches.branch [
+        | then-touches w ↦ rw (w.keys-is, w.with_key-keys.ensures) (below_more _ _ l.k l.keys l.invariant.1 (sym e ∙ w.if-touches.true))
+        | else-touches w ↦ rw w.keys-is (below_same _ _ l.k l.keys l.invariant.1 (sym e ∙ w.if-touches.false))
+      ],
     )
 
 pub returns : goal.returns

@@ -1,11 +1,5 @@
-use mathlib.Core.Path.{◌≡◌, sym, ◌∙◌}
-use mathlib.Core.Logic.{⊎_elim}
 use Prim.Native.Nat.{◌-◌, ◌≤◌}
-use native.Mathlib.Omega.{arith}
-use borrow.Author.Rules.{rules}
-use lib.ListN.{length}
-use Rattle.schema.specs.Fields.{schema_of}
-use Rattle.table_keys.proofs.TouchLaws.{KeysBelow, below_start, below_more, below_same, below_all}
+use Rattle.table_keys.proofs.TouchLaws.{KeysBelow}
 use Rattle.table_keys.proofs.keys_of.Given as goal
 
 abbrev pub invariant-loop-k : goal.invariant-loop-k

@@ -1,6 +1,5 @@
 use mathlib.Core.Path.{sym, ap, ◌∙◌}
 use Prim.Native.Nat.{ℕ}
-use borrow.Author.Rules.{rules}
 use lib.Dec.{eqb}
 use Rattle.schema.specs.Fields.{schema_of}
 use Rattle.schema.specs.Records.{ForeignKey, key_of}

@@ -1,13 +1,8 @@
-use mathlib.Core.Path.{◌≡◌, refl, sym, ◌∙◌}
-use Prim.Native.Nat.{◌-◌, ◌≤◌}
+use mathlib.Core.Path.{refl, sym, ◌∙◌}
 use native.Mathlib.Omega.{arith}
 use borrow.Author.Rules.{rules}
-use lib.ListN.{length, drop}
 use Rattle.schema.specs.Records.{no_key}
-use Rattle.schema.specs.Fields.{schema_of}
-use Rattle.rules.specs.Lists.{any}
 use Rattle.bridge.proofs.LoopLaws.{any_none, any_hit, any_miss}
-use Rattle.table_keys.specs.Touched.{broken_used}
 use Rattle.table_keys.proofs.uses_broken.Goals as goal
 
 pub loop-k-init : goal.loop-k-init

@@ -1,12 +1,8 @@
-use mathlib.Core.Path.{◌≡◌, refl, sym, ◌∙◌}
+use mathlib.Core.Path.{◌≡◌}
 use Prim.Native.Nat.{◌-◌, ◌≤◌}
-use native.Mathlib.Omega.{arith}
-use borrow.Author.Rules.{rules}
 use lib.ListN.{length, drop}
-use Rattle.schema.specs.Records.{no_key}
 use Rattle.schema.specs.Fields.{schema_of}
 use Rattle.rules.specs.Lists.{any}
-use Rattle.bridge.proofs.LoopLaws.{any_none, any_hit, any_miss}
 use Rattle.table_keys.specs.Touched.{broken_used}
 use Rattle.table_keys.proofs.uses_broken.Given as goal
 

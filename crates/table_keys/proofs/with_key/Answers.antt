@@ -1,6 +1,5 @@
 use mathlib.Core.Path.{sym, ◌∙◌}
 use native.Mathlib.Omega.{arith}
-use borrow.Author.Rules.{rules}
 use Rattle.schema.proofs.SchemaLaws.{accepted_valid}
 use Rattle.table_keys.proofs.TouchLaws.{with_broken, with_whole}
 use Rattle.table_keys.proofs.with_key.Goals as goal
