@@ -6,7 +6,6 @@ use Rattle.schema.specs.Bytes.{bit}
 use Rattle.rules.specs.Calls.{seeks_null, value_fits, allowed}
 use Rattle.bridge.proofs.Tests.{and_same}
 use Rattle.call_form.specs.Requests.{call_of}
-use borrow.Author.Rules.{rules}
 use Rattle.call_form.proofs.delete_where_fits.Goals as goal
 
 pub returns : goal.returns

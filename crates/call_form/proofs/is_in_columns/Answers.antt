@@ -1,7 +1,6 @@
 use mathlib.Core.Path.{sym, ap, ◌∙◌}
 use native.Mathlib.Omega.{arith}
 use borrow.Author.Tests.{le-ltb}
-use borrow.Author.Rules.{rules}
 use lib.Dec.{ltb}
 use Rattle.schema.specs.Fields.{schema_of}
 use Rattle.rules.specs.Calls.{in_columns}

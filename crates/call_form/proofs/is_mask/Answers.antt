@@ -1,4 +1,3 @@
-use borrow.Author.Rules.{rules}
 use Rattle.call_form.proofs.WordLaws.{mask_is}
 use Rattle.call_form.proofs.is_mask.Goals as goal
 

@@ -1,6 +1,5 @@
 use Rattle.bridge.proofs.Tests.{and_same}
 use Rattle.call_form.specs.Requests.{natural_place}
-use borrow.Author.Rules.{rules}
 use Rattle.call_form.proofs.is_natural_place.Goals as goal
 
 pub returns : goal.returns

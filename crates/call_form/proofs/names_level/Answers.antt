@@ -1,5 +1,4 @@
 use mathlib.Core.Path.{ap, ◌∙◌}
-use borrow.Author.Rules.{rules}
 use Rattle.rules.specs.Calls.{level_number}
 use Rattle.bridge.proofs.Tests.{and_same}
 use Rattle.call_form.specs.Requests.{names_level}

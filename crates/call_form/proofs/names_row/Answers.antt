@@ -1,5 +1,4 @@
 use mathlib.Core.Path.{ap₂, ◌∙◌}
-use borrow.Author.Rules.{rules}
 use Rattle.schema.specs.Fields.{schema_of}
 use Rattle.rules.specs.Calls.{in_table}
 use Rattle.bridge.proofs.Tests.{and_same}

@@ -1,7 +1,5 @@
 use mathlib.Core.Path.{◌≡◌, sym, ap₂, ◌∙◌}
 use mathlib.Core.Bool.{◌&&◌}
-use borrow.Author.Tests.{not-true, not-false}
-use borrow.Author.Rules.{rules}
 use lib.ListN.{drop}
 use Rattle.schema.specs.Fields.{schema_of}
 use Rattle.rules.specs.Values.{all_zero}

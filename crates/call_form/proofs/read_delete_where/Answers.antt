@@ -1,7 +1,6 @@
 use mathlib.Core.Path.{◌≡◌, sym, ap, ap₂, ◌∙◌}
 use mathlib.Core.Bool.{◌&&◌}
 use Prim.Native.Nat.{ℕ}
-use borrow.Author.Tests.{not-true, not-false}
 use lib.IntN.{pos}
 use lib.ListN.{get_or, drop}
 use Rattle.schema.specs.Fields.{schema_of}
@@ -11,7 +10,6 @@ use Rattle.bridge.proofs.Tests.{and_same}
 use Rattle.call_form.specs.declared.Request.TheVariants.{DeleteWhere}
 use Rattle.call_form.specs.Requests.{call_of, natural_place}
 use Rattle.call_form.proofs.ReadLaws.{formed_yes, formed_no, delete_where_is}
-use borrow.Author.Rules.{rules}
 use Rattle.call_form.proofs.read_delete_where.Goals as goal
 use Rattle.call_form.proofs.read_delete_where.Goals.{After-delete_where_fits}
 

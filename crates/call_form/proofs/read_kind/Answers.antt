@@ -1,5 +1,4 @@
 use mathlib.Core.Path.{sym, ◌∙◌}
-use borrow.Author.Rules.{rules}
 use Rattle.call_form.specs.Requests.{call_of}
 use Rattle.call_form.proofs.ReadLaws.{at_kind, begin_is, savepoint_is, release_is, rollback_to_is, rollback_is, commit_is, other_is, above}
 use Rattle.call_form.proofs.read_kind.Goals as goal
@@ -44,6 +43,6 @@ returns-in-11 c = c.read_update_where.ensures ∙ at_kind _ _ c.in-11.is
 pub returns-in_default : goal.returns-in_default
 unfolding call_of
 returns-in_default c =
-    let m = c.in-1.rest in
+    let m = c.in_default.in_default-own.rest in
     let k = c.args.kind in
     other_is _ _ k (λ h. above 11 k (above 10 k (above 9 k (above 8 k (above 7 k (above 6 k (above 5 k (above 4 k (above 3 k (above 2 k (above 1 k h m.0.0.0.0.0.0.0.0.0.0.1) m.0.0.0.0.0.0.0.0.0.1) m.0.0.0.0.0.0.0.0.1) m.0.0.0.0.0.0.0.1) m.0.0.0.0.0.0.1) m.0.0.0.0.0.1) m.0.0.0.0.1) m.0.0.0.1) m.0.0.1) m.0.1) m.1)

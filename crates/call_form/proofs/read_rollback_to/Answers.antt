@@ -1,6 +1,4 @@
 use mathlib.Core.Path.{sym, ap, ◌∙◌}
-use borrow.Author.Tests.{not-true, not-false}
-use borrow.Author.Rules.{rules}
 use Rattle.rules.specs.Calls.{rollback_to}
 use Rattle.call_form.specs.Requests.{call_of}
 use Rattle.call_form.proofs.ReadLaws.{formed_yes, formed_no}

@@ -7,7 +7,6 @@ use Rattle.schema.specs.Fields.{schema_of}
 use Rattle.rules.specs.Calls.{in_columns, seeks_null, sets_null, value_fits, allowed}
 use Rattle.bridge.proofs.Tests.{and_same}
 use Rattle.call_form.specs.Requests.{call_of}
-use borrow.Author.Rules.{rules}
 use Rattle.call_form.proofs.update_where_fits.Goals as goal
 
 pub returns : goal.returns
