@@ -15,7 +15,6 @@ use Rattle.rules.specs.Lists.{𝟘}
 use Rattle.rules.specs.Values.{same_word, all_zero}
 use Rattle.rules.specs.Refusals.{failing}
 use Rattle.rules.specs.Book.{Book, with_work, emptied}
-use Rattle.rules.specs.Change.{go}
 use Rattle.rules.specs.State.{in_transaction, kept_in_range}
 use Rattle.rules.specs.Statement.{immediate_zero, enforced, journal_after, after_statement}
 use Rattle.levels.specs.Parts.{with_kept}

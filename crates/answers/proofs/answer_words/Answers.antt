@@ -1,7 +1,6 @@
 use mathlib.Core.Path.{◌∙◌}
 use Prim.Native.Nat.{◌≤◌}
 use native.Mathlib.Omega.{arith}
-use borrow.Author.Rules.{rules}
 use Rattle.words.proofs.Signed.{back}
 use Rattle.answers.proofs.AnswerLaws.{done_few, done_words, refused_words}
 use Rattle.answers.proofs.answer_words.Goals as goal

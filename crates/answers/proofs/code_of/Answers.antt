@@ -1,5 +1,4 @@
 use mathlib.Core.Path.{refl, ◌∙◌}
-use borrow.Author.Rules.{rules}
 use Rattle.rules.specs.Refusals.{shown}
 use Rattle.words.proofs.Signed.{back}
 use Rattle.answers.proofs.code_of.Goals as goal

@@ -1,5 +1,4 @@
 use mathlib.Core.Path.{refl}
-use borrow.Author.Rules.{rules}
 use Rattle.rules.specs.Refusals.{number}
 use Rattle.answers.proofs.refusal_number.Goals as goal
 

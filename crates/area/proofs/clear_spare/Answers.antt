@@ -6,7 +6,6 @@ use Rattle.schema.specs.Sizes.{rows_start, rows_size}
 use Rattle.bridge.proofs.ClearWords.{words_cleared}
 use Rattle.area.proofs.Places.{area_long}
 use Rattle.area.proofs.Journal.{use_in_room}
-use borrow.Author.Rules.{rules}
 use Rattle.area.proofs.clear_spare.Goals as goal
 
 pub nat_at-used-requires : goal.nat_at-used-requires

@@ -9,7 +9,6 @@ use Rattle.schema.specs.Fields.{schema_of}
 use Rattle.schema.specs.Sizes.{rows_start, rows_size}
 use Rattle.bridge.proofs.ClearWords.{emptied_is}
 use Rattle.area.proofs.SpareLaws.{part_length, part_cleared}
-use borrow.Author.Rules.{rules}
 use Rattle.area.proofs.empty_journal.Goals as goal
 
 pub record_at-at-requires : goal.record_at-at-requires

@@ -3,7 +3,6 @@ use Prim.Native.Nat.{ℕ, ◌+◌}
 use native.Mathlib.Numerals.{add-one}
 use native.Mathlib.Omega.{arith}
 use Rattle.area.proofs.Places.{row_in_lem, image_is}
-use borrow.Author.Rules.{rules}
 use Rattle.area.proofs.image_of.Goals as goal
 
 pub image_at-requires : goal.image_at-requires

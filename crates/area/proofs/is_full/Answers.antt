@@ -1,7 +1,6 @@
 use native.Mathlib.Omega.{arith}
 use Rattle.area.proofs.Places.{area_long}
 use Rattle.area.proofs.Journal.{full_is}
-use borrow.Author.Rules.{rules}
 use Rattle.area.proofs.is_full.Goals as goal
 
 pub nat_at-used-requires : goal.nat_at-used-requires

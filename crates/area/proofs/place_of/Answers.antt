@@ -1,7 +1,6 @@
 use native.Mathlib.Omega.{arith}
 use Rattle.schema.proofs.FieldLaws.{tables_few}
 use Rattle.area.proofs.Places.{place_is, row_small}
-use borrow.Author.Rules.{rules}
 use Rattle.area.proofs.place_of.Goals as goal
 
 pub overflow_mul-result : goal.overflow_mul-result

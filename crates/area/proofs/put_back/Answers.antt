@@ -1,4 +1,3 @@
-use borrow.Author.Rules.{rules}
 use Rattle.area.proofs.SpareLaws.{undone_same}
 use Rattle.area.proofs.put_back.Goals as goal
 

@@ -1,7 +1,6 @@
 use native.Mathlib.Omega.{arith}
 use Rattle.schema.proofs.FieldLaws.{tables_few}
 use Rattle.area.proofs.Places.{put_is, row_in_table, table_in_area}
-use borrow.Author.Rules.{rules}
 use Rattle.area.proofs.put_in_table.Goals as goal
 
 pub overflow_add-end : goal.overflow_add-end

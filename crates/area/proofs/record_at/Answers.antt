@@ -1,5 +1,4 @@
 use native.Mathlib.Omega.{arith}
-use borrow.Author.Rules.{rules}
 use Rattle.area.proofs.Places.{area_long}
 use Rattle.area.proofs.record_at.Goals as goal
 

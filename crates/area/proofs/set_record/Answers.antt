@@ -3,7 +3,6 @@ use mathlib.Core.List.{List}
 use lib.IntN.{ℤ}
 use lib.ListN.{set}
 use Rattle.words.proofs.Signed.{back}
-use borrow.Author.Rules.{rules}
 use Rattle.area.proofs.set_record.Goals as goal
 
 pub returns : goal.returns

@@ -3,7 +3,6 @@ use native.Mathlib.Omega.{arith}
 use Rattle.schema.proofs.FieldLaws.{room_few}
 use Rattle.area.proofs.Places.{area_long}
 use Rattle.area.proofs.Journal.{use_in_room, newest_place, newest_undone}
-use borrow.Author.Rules.{rules}
 use Rattle.area.proofs.undo_one.Goals as goal
 
 pub record_at-at-requires : goal.record_at-at-requires

@@ -1,7 +1,4 @@
-use borrow.Author.Rules.{rules}
-use mathlib.Core.Path.{◌≡◌, refl, sym, ◌∙◌}
-use Prim.Native.Nat.{suc, ◌-◌}
-use native.Mathlib.Omega.{arith}
+use mathlib.Core.Path.{◌≡◌}
 use lib.IntN.{pos}
 use lib.ListN.{length, get_or}
 use Rattle.schema.specs.Fields.{schema_of}
@@ -9,9 +6,6 @@ use Rattle.rules.specs.Book.{undo_to}
 use Rattle.rules.specs.Values.{nat_of}
 use Rattle.bridge.specs.Fit.{work_of, Keeps}
 use Rattle.bridge.specs.Ready.{Undoable}
-use Rattle.bridge.proofs.RowWords.{keeps_refl, keeps_trans}
-use Rattle.area.proofs.Places.{area_long}
-use Rattle.area.proofs.Journal.{undoable_less, use_less, undo_again, undo_end}
 use Rattle.area.proofs.undo_to.Given as goal
 
 abbrev pub invariant-loop-used : goal.invariant-loop-used

@@ -5,7 +5,6 @@ use lib.IntN.{ℤ, pos}
 use lib.ListN.{set, replicate}
 use lib.Seq.{sets}
 use Rattle.words.proofs.Signed.{back}
-use borrow.Author.Rules.{rules}
 use Rattle.levels.proofs.close_levels.Goals as goal
 
 pub returns : goal.returns

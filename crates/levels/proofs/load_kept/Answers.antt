@@ -2,7 +2,6 @@ use mathlib.Core.Path.{ap, ◌∙◌}
 use mathlib.Core.List.{List}
 use lib.IntN.{ℤ}
 use lib.Seq.{sets}
-use borrow.Author.Rules.{rules}
 use Rattle.levels.proofs.load_kept.Goals as goal
 
 pub returns : goal.returns

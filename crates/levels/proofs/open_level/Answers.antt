@@ -6,7 +6,6 @@ use lib.ListN.{get_or, set}
 use lib.Seq.{sets}
 use Rattle.words.proofs.Signed.{back}
 use Rattle.rules.specs.Values.{nat_of}
-use borrow.Author.Rules.{rules}
 use Rattle.levels.proofs.open_level.Goals as goal
 
 pub returns : goal.returns

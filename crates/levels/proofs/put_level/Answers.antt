@@ -8,7 +8,6 @@ use lib.Seq.{sets}
 use mir.Syntax.{w64}
 use mir.Val.{to_z, of_z}
 use Rattle.words.proofs.Signed.{back}
-use borrow.Author.Rules.{rules}
 use Rattle.levels.proofs.put_level.Goals as goal
 
 pub put_numbers-requires : goal.put_numbers-requires

@@ -1,18 +1,8 @@
 use Rattle.rules.specs.Statement.{immediate_zero}
-use mathlib.Core.Path.{◌≡◌, refl, sym, ap, ap₂, ◌∙◌}
-use mathlib.Core.Bool.{true, false, ◌||◌}
-use mathlib.Core.List.{List}
-use Prim.Native.Nat.{ℕ, ◌-◌, ◌<◌, ◌≤◌}
-use native.Mathlib.Omega.{arith}
-use borrow.Author.Tests.{not-true, not-false}
-use lib.IntN.{ℤ, pos}
-use lib.ListN.{length, get_or, drop}
+use mathlib.Core.Path.{◌≡◌}
+use Prim.Native.Nat.{◌-◌, ◌≤◌}
+use lib.ListN.{length, drop}
 use Rattle.schema.specs.Fields.{schema_of}
-use Rattle.schema.specs.Records.{ForeignKey, Schema, key_of}
-use Rattle.rules.specs.Values.{same_word}
-use Rattle.words.proofs.Signed.{back}
-use Rattle.settlement.proofs.SettleLaws as law
-use borrow.Author.Rules.{rules}
 use Rattle.settlement.proofs.immediate_zero.Given as goal
 
 abbrev pub invariant-loop-k : goal.invariant-loop-k

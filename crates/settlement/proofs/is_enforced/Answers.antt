@@ -1,7 +1,6 @@
 use mathlib.Core.Path.{sym, ◌∙◌}
 use Rattle.schema.specs.Fields.{schema_of}
 use Rattle.settlement.proofs.SettleLaws as law
-use borrow.Author.Rules.{rules}
 use Rattle.settlement.proofs.is_enforced.Goals as goal
 
 pub returns-then-inside : goal.returns-then-inside

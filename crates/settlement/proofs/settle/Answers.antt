@@ -1,5 +1,4 @@
 use native.Mathlib.Omega.{arith}
-use borrow.Author.Tests.{not-true, not-false}
 use Rattle.bridge.proofs.HoldLaws.{area_long}
 use Rattle.sums.proofs.KeptSmall.{small_more}
 use Rattle.settlement.proofs.KeptLaws as law

@@ -1,11 +1,11 @@
 use mathlib.Core.Path.{◌≡◌, sym, ap₂, ◌∙◌}
 use mathlib.Core.List.{List}
-use Prim.Native.Nat.{ℕ, ◌-◌, ◌<◌, ◌≤◌}
+use Prim.Native.Nat.{ℕ, ◌<◌}
 use native.Mathlib.Omega.{arith}
 use borrow.Author.Rules.{rules}
 use lib.IntN.{ℤ, pos, ◌-ℤ◌}
-use lib.ListN.{length, get_or, take, replicate, length-set}
-use lib.Seq.{sets, take_all}
+use lib.ListN.{length, get_or, replicate, length-set}
+use lib.Seq.{take_all}
 use mir.Syntax.{w64}
 use mir.Val.{to_z, of_z}
 use Rattle.rules.specs.Lists.{less}

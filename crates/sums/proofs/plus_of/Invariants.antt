@@ -1,18 +1,9 @@
-use mathlib.Core.Path.{◌≡◌, sym, ap₂, ◌∙◌}
-use mathlib.Core.List.{List}
-use Prim.Native.Nat.{ℕ, ◌-◌, ◌<◌, ◌≤◌}
-use native.Mathlib.Omega.{arith}
-use borrow.Author.Rules.{rules}
-use lib.IntN.{ℤ, pos, ◌+ℤ◌}
-use lib.ListN.{length, get_or, take, replicate, length-set}
-use lib.Seq.{sets, take_all}
-use mir.Syntax.{w64}
-use mir.Val.{to_z, of_z}
+use mathlib.Core.Path.{◌≡◌}
+use Prim.Native.Nat.{◌-◌, ◌≤◌}
+use lib.IntN.{pos}
+use lib.ListN.{length, take, replicate}
+use lib.Seq.{sets}
 use Rattle.rules.specs.Lists.{plus}
-use Rattle.words.proofs.Signed.{back}
-use Rattle.words.proofs.Splice.{sets_more, sets_all}
-use Rattle.sums.proofs.SumLaws.{get_plus, length_plus}
-use native.Mathlib.Nat.{zero-add}
 use Rattle.sums.proofs.plus_of.Given as goal
 
 abbrev pub invariant-loop-k : goal.invariant-loop-k

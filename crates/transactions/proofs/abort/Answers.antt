@@ -3,7 +3,6 @@ use Rattle.schema.specs.Fields.{schema_of}
 use Rattle.bridge.proofs.SoundLaws.{undoable}
 use Rattle.transactions.proofs.Steps as step
 use Rattle.area.proofs.SpareLaws.{spare_undone}
-use borrow.Author.Rules.{rules}
 use Rattle.transactions.proofs.abort.Goals as goal
 
 pub undo_to-requires : goal.undo_to-requires

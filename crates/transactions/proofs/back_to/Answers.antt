@@ -1,7 +1,6 @@
 use native.Mathlib.Omega.{arith}
 use Rattle.bridge.proofs.SoundLaws.{undoable}
 use Rattle.transactions.proofs.Steps as step
-use borrow.Author.Rules.{rules}
 use Rattle.transactions.proofs.back_to.Goals as goal
 
 pub undo_to-requires : goal.undo_to-requires

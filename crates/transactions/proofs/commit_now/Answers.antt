@@ -1,12 +1,10 @@
 use mathlib.Core.Path.{sym, ap, ◌∙◌}
 use native.Mathlib.Omega.{arith}
-use borrow.Author.Tests.{not-true, not-false}
 use Rattle.schema.specs.Fields.{schema_of}
 use Rattle.rules.specs.Values.{all_zero}
 use Rattle.rules.specs.Area.{view}
 use Rattle.transactions.proofs.Turns as turn
 use Rattle.transactions.proofs.Steps as step
-use borrow.Author.Rules.{rules}
 use Rattle.transactions.proofs.commit_now.Goals as goal
 
 pub numbers_at-kept-requires : goal.numbers_at-kept-requires

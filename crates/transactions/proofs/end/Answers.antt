@@ -3,7 +3,6 @@ use native.Mathlib.Omega.{arith}
 use Rattle.schema.specs.Fields.{schema_of}
 use Rattle.transactions.proofs.Steps as step
 use Rattle.area.proofs.SpareLaws.{spare_same}
-use borrow.Author.Rules.{rules}
 use Rattle.transactions.proofs.end.Goals as goal
 
 pub nat_at-n-requires : goal.nat_at-n-requires

@@ -4,7 +4,6 @@ use lib.IntN.{ℤ}
 use lib.ListN.{set}
 use Rattle.words.proofs.Signed.{back}
 use Rattle.transactions.proofs.Steps as step
-use borrow.Author.Rules.{rules}
 use Rattle.transactions.proofs.open_next.Goals as goal
 
 pub open_level-requires : goal.open_level-requires

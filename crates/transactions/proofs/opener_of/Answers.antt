@@ -2,7 +2,6 @@ use mathlib.Core.Path.{refl}
 use borrow.Author.Tests.{le-leb}
 use Rattle.rules.specs.Step.{opener_of}
 use Rattle.transactions.proofs.Steps as step
-use borrow.Author.Rules.{rules}
 use Rattle.transactions.proofs.opener_of.Goals as goal
 
 pub returns-then-n-eq0 : goal.returns-then-n-eq0

@@ -1,11 +1,10 @@
 use mathlib.Core.Path.{sym, ap, ◌∙◌}
 use native.Mathlib.Omega.{arith}
-use borrow.Author.Tests.{not-true, not-false, ne_eqb}
+use borrow.Author.Tests.{ne_eqb}
 use Rattle.schema.specs.Fields.{schema_of}
 use Rattle.rules.specs.Area.{view, on_words}
 use Rattle.transactions.proofs.Turns as turn
 use Rattle.transactions.proofs.Steps as step
-use borrow.Author.Rules.{rules}
 use Rattle.transactions.proofs.release.Goals as goal
 
 pub returns-then-not-is_open : goal.returns-then-not-is_open

@@ -7,7 +7,6 @@ use Rattle.rules.specs.Area.{view}
 use Rattle.words.proofs.Signed.{back}
 use Rattle.transactions.proofs.Turns as turn
 use Rattle.transactions.proofs.Steps as step
-use borrow.Author.Rules.{rules}
 use Rattle.transactions.proofs.rollback.Goals as goal
 
 pub nat_at-requires : goal.nat_at-requires

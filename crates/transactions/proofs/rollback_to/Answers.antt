@@ -1,7 +1,6 @@
 use mathlib.Core.Path.{◌≡◌, sym, ap, ◌∙◌}
 use Prim.Native.Nat.{ℕ, ◌-◌, ◌≤◌}
 use native.Mathlib.Omega.{arith}
-use borrow.Author.Tests.{not-true, not-false}
 use lib.ListN.{length}
 use mir.Syntax.{w64}
 use mir.Val.{to_z, of_z}
@@ -12,7 +11,6 @@ use Rattle.rules.specs.Area.{view}
 use Rattle.words.proofs.Signed.{back}
 use Rattle.transactions.proofs.Turns as turn
 use Rattle.transactions.proofs.Steps as step
-use borrow.Author.Rules.{rules}
 use Rattle.transactions.proofs.rollback_to.Goals as goal
 
 pub returns-then-not-is_open : goal.returns-then-not-is_open

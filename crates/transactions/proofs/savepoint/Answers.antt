@@ -4,7 +4,6 @@ use Rattle.schema.specs.Fields.{schema_of}
 use Rattle.rules.specs.Area.{view}
 use Rattle.transactions.proofs.Turns as turn
 use Rattle.transactions.proofs.Steps as step
-use borrow.Author.Rules.{rules}
 use Rattle.transactions.proofs.savepoint.Goals as goal
 
 pub nat_at-n-requires : goal.nat_at-n-requires
