@@ -13,6 +13,7 @@ pub struct Tally {
 }
 
 // The sum, or the largest number where the sum would pass it.
+#[tactic(auto, unfolding(crate::specs::Tallies::capped))]
 pub fn add_capped(a: u64, b: u64) -> u64
     ensures { result ≡ capped a b }
 {
@@ -23,6 +24,7 @@ pub fn add_capped(a: u64, b: u64) -> u64
 }
 
 // The tally with one answer more.
+#[tactic(auto, unfolding(crate::specs::Tallies::tallied))]
 pub fn tally_with(tally: Tally, code: u64, changed: u64) -> Tally
     ensures { result ≡ tallied tally code changed }
 {
