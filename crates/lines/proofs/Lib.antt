@@ -1,4 +1,3 @@
 -- What the proofs of several functions use, and callers' proofs cite.
-pub mod SignedLaws
 pub mod TextLaws
 pub mod Examples

@@ -2,7 +2,7 @@
 -- Assumes nothing.
 use mathlib.Core.Path.{◌≡◌, refl, sym, ap, ap₂, subst, ◌∙◌}
 use mathlib.Core.Bool.{Bool, true, false}
-use mathlib.Core.List.{List, [], ◌∷◌, ◌++◌, append-nil, append_assoc}
+use mathlib.Core.List.{List, [], ◌∷◌, ◌++◌, append_assoc}
 use Prim.Native.Nat.{ℕ, zero, suc, ◌+◌, ◌*◌, ◌-◌, ◌/◌, ◌%◌, ◌^◌, ◌≤◌, ◌<◌}
 use native.Mathlib.Omega.{arith}
 use native.Mathlib.Nat.{pow-succ'}
@@ -10,8 +10,9 @@ use borrow.Author.Tests.{ltb-true, lt-ltb, le-ltb, leb-true, leb-false}
 use lib.Dec.{T, leb}
 use lib.IntN.{ℤ, pos, negsuc, nat_abs}
 use lib.Signed.{lt_z}
-use lib.ListN.{length, take, drop, length-append, length-drop, drop_of_length-le}
-use lib.Seq.{sets, sets-eq, drop-drop, take_all, take-length}
+use lib.ListN.{length, take, drop, length-append}
+use lib.Seq.{sets, sets-eq, drop-drop}
+use borrow.Rule.Slice.PartMut.{put_mid}
 use mir.Syntax.{w64}
 use mir.Val.{SFits, to_z, of_z}
 use mir.Facts.{to_z-of_z}
@@ -20,13 +21,12 @@ use Rattle.lines.specs.Text.{put, decimal_up_to, decimal, signed_text}
 
 -- ---- text written into a buffer
 
--- a text copied into the lent part from `at` on
-pub copied : (text out : List ℕ) (at m : ℕ) → at + length text ≤ length out → m ≡ length out - at
-    → take at out ++ (take (length text) text ++ drop (length text) (take m (drop at out)) ++ drop m (drop at out)) ≡ sets out at text
-copied text out at m h e =
-    let rest : List ℕ = drop at out in
-    let whole : length rest ≤ m = simp length-drop (omega (arith, e)) in
-    rw (take-length text, take_all m rest whole, drop_of_length-le rest whole, append-nil, drop-drop (length text) at out, sets-eq text out at h) (sym (append_assoc (take at out) text (drop (at + length text) out)))
+-- a text copied into the part of the buffer that starts at `at` and is as long
+pub copied : (text out : List ℕ) (at : ℕ) → at + length text ≤ length out
+    → put_mid at (at + length text - at) out text ≡ sets out at text
+copied text out at h =
+    let n : at + length text - at ≡ length text = omega arith in
+    rw (n, drop-drop (length text) at out, sets-eq text out at h) (sym (append_assoc (take at out) text (drop (at + length text) out)))
 
 sets_append : (out a b : List ℕ) (at : ℕ) → sets (sets out at a) (at + length a) b ≡ sets out at (a ++ b)
 sets_append out [] b at = ap (λ i. sets out i b) (omega arith)

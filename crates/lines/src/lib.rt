@@ -21,7 +21,8 @@ pub fn put_text(out: &mut [u8], at: usize, text: &[u8]) -> usize
     requires { at + length text.now ≤ length out.old }
     ensures { ((result, out.new) ≡ put text.now (at, out.old)) × (result ≡ at + length text.now) }
 {
-    let n = bytes::copy(text, &mut out[at..]);
+    let n = text.len();
+    out[at..at + n].copy_from_slice(text);
     at + n
 }
 
