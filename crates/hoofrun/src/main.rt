@@ -2,14 +2,16 @@
 
 #![tactic(auto)]
 
-ghost use Rattle.std.specs.Prelude.{◌≡◌, ◌*◌, ◌≤◌, length, take};
+ghost use Rattle.std.specs.Prelude.{◌≡◌, ℕ, ◌*◌, ◌≤◌, length, take, IfOk, OnErr};
+ghost use Rattle.std.specs.Io.{ReadsAtMost};
 ghost use Rattle.laws.specs.Reached.{Reached};
 ghost use Rattle.call_lines.specs.Runs.{call_count, after};
 
-use libc::{STDIN_FILENO, STDOUT_FILENO};
 use reports::Progress;
 use rules::Answer;
 use run_tally::Tally;
+use std::io;
+use std::io::Read;
 
 // A piece of the input: how many bytes were read, and the tally after it.
 #[derive(Clone, Copy)]
@@ -18,41 +20,71 @@ struct Piece {
     tally: Tally,
 }
 
-// Reads the schema: as many bytes as its whole-length field says, or all there are if fewer.
-fn read_schema(bytes: &mut [u8]) -> usize
-    requires { 65536 ≤ length bytes.old }
-    ensures { result ≤ length bytes.old }
+// 65,536 zeros. The contract gives their number alone.
+fn large_buffer() -> [u8; 65536]
+    ensures { 65536 ≡ length result }
 {
-    let header = io::read_full(STDIN_FILENO, &mut bytes[0..16]);
+    [0; 65536]
+}
+
+// Reads until the buffer is full or the input ends; answers how many bytes it put at the start.
+// A read that fails ends it with that read's error.
+fn read_full(rt: &impl Input, bytes: &mut [u8]) -> io::Result<usize>
+    ensures { ReadsAtMost result bytes.new }
+{
+    let mut reader = rt.reader();
+    let mut done = 0;
+    while done < bytes.len() {
+        let n = reader.read(&mut bytes[done..])?;
+        if n == 0 {
+            break;
+        }
+        done += n;
+    }
+    Ok(done)
+}
+
+// Reads the schema: as many bytes as its whole-length field says, or all there are if fewer.
+fn read_schema(rt: &impl Input, bytes: &mut [u8]) -> io::Result<usize>
+    requires { 65536 ≤ length bytes.old }
+    ensures { IfOk result (λ n. n ≤ length bytes.old) }
+{
+    let header = read_full(rt, &mut bytes[0..16])?;
     if header < 16 {
-        return header;
+        return Ok(header);
     }
     let length = numbers::half_at(bytes, 14);
     if length <= 16 {
-        return length;
+        return Ok(length);
     }
-    16 + io::read_full(STDIN_FILENO, &mut bytes[16..length])
+    let rest = read_full(rt, &mut bytes[16..length])?;
+    Ok(16 + rest)
 }
 
 // Prints the first n bytes of the buffer.
-fn print(out: &[u8], n: usize)
+fn print(rt: &impl Print, out: &[u8], n: usize) -> io::Result<()>
     requires { n ≤ length out.now }
 {
-    io::write_all(STDOUT_FILENO, &out[0..n]);
+    rt.write_all(&out[0..n])
 }
 
 // Reads a piece of the calls, runs it and prints its lines.
 fn run_piece(
+    rt: &(impl Input + Print),
     schema: &[u8],
     area: &mut [i64],
     input: &mut [u8],
     out: &mut [u8],
     tally: Tally,
-) -> Piece
+) -> io::Result<Piece>
     requires { Reached schema.now area.old × (64 * call_count (length input.old) ≤ length out.old) }
-    ensures { ((area.new, result.tally) ≡ after schema.now (take result.read input.new) area.old tally) × Reached schema.now area.new }
+    ensures ok { IfOk result
+        (λ piece. (area.new, piece.tally) ≡ after schema.now (take piece.read input.new) area.old tally) }
+    ensures err { OnErr result
+        ((n : ℕ) × (area.new ≡ (after schema.now (take n input.new) area.old tally).0)) }
+    ensures reached { Reached schema.now area.new }
 {
-    let n = io::read_full(STDIN_FILENO, input);
+    let n = read_full(rt, input)?;
     let begun = Progress {
         tally: tally,
         used: 0,
@@ -60,22 +92,24 @@ fn run_piece(
     let progress = call_lines::run_calls(schema, area, &input[0..n], out, begun);
     let used = progress.used;
     let counted = progress.tally;
-    print(out, used);
-    Piece {
+    print(rt, out, used)?;
+    Ok(Piece {
         read: n,
         tally: counted,
-    }
+    })
 }
 
 // Runs the calls piece by piece until the input ends: at a piece that is not full.
 fn run_input(
+    rt: &(impl Input + Print),
     schema: &[u8],
     area: &mut [i64],
     input: &mut [u8],
     out: &mut [u8],
     tally: Tally,
-) -> Tally
+) -> io::Result<Tally>
     requires { Reached schema.now area.old × (64 * call_count (length input.old) ≤ length out.old) }
+    ensures { Reached schema.now area.new }
 {
     let full = input.len();
     let mut piece = Piece {
@@ -85,14 +119,14 @@ fn run_input(
     let mut left = u64::MAX;
     while left > 0 && piece.read == full {
         let counted = piece.tally;
-        piece = run_piece(schema, area, input, out, counted);
+        piece = run_piece(rt, schema, area, input, out, counted)?;
         left -= 1;
     }
-    piece.tally
+    Ok(piece.tally)
 }
 
 // Prints the line of a refused schema.
-fn refuse(out: &mut [u8], tally: Tally, answer: Answer) -> Tally
+fn refuse(rt: &impl Print, out: &mut [u8], tally: Tally, answer: Answer) -> io::Result<Tally>
     requires { 64 ≤ length out.old }
 {
     let begun = Progress {
@@ -101,45 +135,57 @@ fn refuse(out: &mut [u8], tally: Tally, answer: Answer) -> Tally
     };
     let progress = reports::report(out, begun, answer);
     let used = progress.used;
-    print(out, used);
-    progress.tally
+    print(rt, out, used)?;
+    Ok(progress.tally)
 }
 
 // Makes the area fresh and runs the calls, or refuses the schema.
-fn run_area(schema: &[u8], area: &mut [i64], out: &mut [u8], tally: Tally) -> Tally
+fn run_area(
+    rt: &(impl Input + Print),
+    schema: &[u8],
+    area: &mut [i64],
+    out: &mut [u8],
+    tally: Tally,
+) -> io::Result<Tally>
     requires { 65536 ≤ length out.old }
 {
     let answer = fresh_area::make_fresh(schema, area);
     match answer {
         Answer::Done(_, _) => {
             let mut input = [0u8; 65472];
-            run_input(schema, area, &mut input, out, tally)
+            run_input(rt, schema, area, &mut input, out, tally)
         }
-        Answer::Refused(_) => refuse(out, tally, answer),
+        Answer::Refused(_) => refuse(rt, out, tally, answer),
     }
 }
 
 // Runs the input on as many of the words as the schema needs.
-fn run(schema: &[u8], words: &mut [i64], out: &mut [u8], tally: Tally) -> Tally
+fn run(
+    rt: &(impl Input + Print),
+    schema: &[u8],
+    words: &mut [i64],
+    out: &mut [u8],
+    tally: Tally,
+) -> io::Result<Tally>
     requires { 65536 ≤ length out.old }
 {
     let n = fresh_area::words_taken(schema, words.len());
-    run_area(schema, &mut words[0..n], out, tally)
+    run_area(rt, schema, &mut words[0..n], out, tally)
 }
 
 // Heading, schema, calls, tally.
-fn main() {
-    let mut bytes = io::large_buffer();
+fn main(rt: HostRuntime) -> io::Result<()> {
+    let mut bytes = large_buffer();
     let mut words = [0i64; 8192];
-    let mut out = io::large_buffer();
-    io::write_all(STDOUT_FILENO, b"code,changed,net\n");
-    let length = read_schema(&mut bytes);
+    let mut out = large_buffer();
+    rt.write_all(b"code,changed,net\n")?;
+    let length = read_schema(&rt, &mut bytes)?;
     let none = Tally {
         accepted: 0,
         refused: 0,
         rows: 0,
     };
-    let tally = run(&bytes[0..length], &mut words, &mut out, none);
+    let tally = run(&rt, &bytes[0..length], &mut words, &mut out, none)?;
     let used = lines::put_tally_line(&mut out, 0, tally.accepted, tally.refused, tally.rows);
-    print(&out, used);
+    print(&rt, &out, used)
 }
