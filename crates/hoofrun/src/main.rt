@@ -11,7 +11,7 @@ use reports::Progress;
 use rules::Answer;
 use run_tally::Tally;
 use std::io;
-use std::io::Read;
+use std::io::{Read, Write};
 
 // A piece of the input: how many bytes were read, and the tally after it.
 #[derive(Clone, Copy)]
@@ -29,10 +29,9 @@ fn large_buffer() -> [u8; 65536]
 
 // Reads until the buffer is full or the input ends; answers how many bytes it put at the start.
 // A read that fails ends it with that read's error.
-fn read_full(rt: &impl Input, bytes: &mut [u8]) -> io::Result<usize>
+fn read_full(reader: &mut impl Read, bytes: &mut [u8]) -> io::Result<usize>
     ensures { ReadsAtMost result bytes.new }
 {
-    let mut reader = rt.reader();
     let mut done = 0;
     while done < bytes.len() {
         let n = reader.read(&mut bytes[done..])?;
@@ -45,11 +44,11 @@ fn read_full(rt: &impl Input, bytes: &mut [u8]) -> io::Result<usize>
 }
 
 // Reads the schema: as many bytes as its whole-length field says, or all there are if fewer.
-fn read_schema(rt: &impl Input, bytes: &mut [u8]) -> io::Result<usize>
+fn read_schema(reader: &mut impl Read, bytes: &mut [u8]) -> io::Result<usize>
     requires { 65536 ≤ length bytes.old }
     ensures { IfOk result (λ n. n ≤ length bytes.old) }
 {
-    let header = read_full(rt, &mut bytes[0..16])?;
+    let header = read_full(reader, &mut bytes[0..16])?;
     if header < 16 {
         return Ok(header);
     }
@@ -57,20 +56,23 @@ fn read_schema(rt: &impl Input, bytes: &mut [u8]) -> io::Result<usize>
     if length <= 16 {
         return Ok(length);
     }
-    let rest = read_full(rt, &mut bytes[16..length])?;
+    let rest = read_full(reader, &mut bytes[16..length])?;
     Ok(16 + rest)
 }
 
 // Prints the first n bytes of the buffer.
-fn print(rt: &impl Print, out: &[u8], n: usize) -> io::Result<()>
+fn print(writer: &mut impl Write, out: &[u8], n: usize) -> io::Result<()>
     requires { n ≤ length out.now }
 {
-    rt.write_all(&out[0..n])
+    writer.write_all(&out[0..n])
 }
 
 // Reads a piece of the calls, runs it and prints its lines.
+// After an error the area is where the calls of the first n bytes lead: of none where the read failed,
+// of all that were read where the write did.
 fn run_piece(
-    rt: &(impl Input + Print),
+    reader: &mut impl Read,
+    writer: &mut impl Write,
     schema: &[u8],
     area: &mut [i64],
     input: &mut [u8],
@@ -84,7 +86,7 @@ fn run_piece(
         ((n : ℕ) × (area.new ≡ (after schema.now (take n input.new) area.old tally).0)) }
     ensures reached { Reached schema.now area.new }
 {
-    let n = read_full(rt, input)?;
+    let n = read_full(reader, input)?;
     let begun = Progress {
         tally: tally,
         used: 0,
@@ -92,7 +94,7 @@ fn run_piece(
     let progress = call_lines::run_calls(schema, area, &input[0..n], out, begun);
     let used = progress.used;
     let counted = progress.tally;
-    print(rt, out, used)?;
+    print(writer, out, used)?;
     Ok(Piece {
         read: n,
         tally: counted,
@@ -101,7 +103,8 @@ fn run_piece(
 
 // Runs the calls piece by piece until the input ends: at a piece that is not full.
 fn run_input(
-    rt: &(impl Input + Print),
+    reader: &mut impl Read,
+    writer: &mut impl Write,
     schema: &[u8],
     area: &mut [i64],
     input: &mut [u8],
@@ -119,14 +122,19 @@ fn run_input(
     let mut left = u64::MAX;
     while left > 0 && piece.read == full {
         let counted = piece.tally;
-        piece = run_piece(rt, schema, area, input, out, counted)?;
+        piece = run_piece(reader, writer, schema, area, input, out, counted)?;
         left -= 1;
     }
     Ok(piece.tally)
 }
 
 // Prints the line of a refused schema.
-fn refuse(rt: &impl Print, out: &mut [u8], tally: Tally, answer: Answer) -> io::Result<Tally>
+fn refuse(
+    writer: &mut impl Write,
+    out: &mut [u8],
+    tally: Tally,
+    answer: Answer,
+) -> io::Result<Tally>
     requires { 64 ≤ length out.old }
 {
     let begun = Progress {
@@ -135,13 +143,14 @@ fn refuse(rt: &impl Print, out: &mut [u8], tally: Tally, answer: Answer) -> io::
     };
     let progress = reports::report(out, begun, answer);
     let used = progress.used;
-    print(rt, out, used)?;
+    print(writer, out, used)?;
     Ok(progress.tally)
 }
 
 // Makes the area fresh and runs the calls, or refuses the schema.
 fn run_area(
-    rt: &(impl Input + Print),
+    reader: &mut impl Read,
+    writer: &mut impl Write,
     schema: &[u8],
     area: &mut [i64],
     out: &mut [u8],
@@ -153,15 +162,16 @@ fn run_area(
     match answer {
         Answer::Done(_, _) => {
             let mut input = [0u8; 65472];
-            run_input(rt, schema, area, &mut input, out, tally)
+            run_input(reader, writer, schema, area, &mut input, out, tally)
         }
-        Answer::Refused(_) => refuse(rt, out, tally, answer),
+        Answer::Refused(_) => refuse(writer, out, tally, answer),
     }
 }
 
 // Runs the input on as many of the words as the schema needs.
 fn run(
-    rt: &(impl Input + Print),
+    reader: &mut impl Read,
+    writer: &mut impl Write,
     schema: &[u8],
     words: &mut [i64],
     out: &mut [u8],
@@ -170,7 +180,7 @@ fn run(
     requires { 65536 ≤ length out.old }
 {
     let n = fresh_area::words_taken(schema, words.len());
-    run_area(rt, schema, &mut words[0..n], out, tally)
+    run_area(reader, writer, schema, &mut words[0..n], out, tally)
 }
 
 // Heading, schema, calls, tally.
@@ -178,14 +188,23 @@ fn main(rt: HostRuntime) -> io::Result<()> {
     let mut bytes = large_buffer();
     let mut words = [0i64; 8192];
     let mut out = large_buffer();
-    rt.write_all(b"code,changed,net\n")?;
-    let length = read_schema(&rt, &mut bytes)?;
+    let mut reader = rt.stdin();
+    let mut writer = rt.stdout();
+    writer.write_all(b"code,changed,net\n")?;
+    let length = read_schema(&mut reader, &mut bytes)?;
     let none = Tally {
         accepted: 0,
         refused: 0,
         rows: 0,
     };
-    let tally = run(&rt, &bytes[0..length], &mut words, &mut out, none)?;
+    let tally = run(
+        &mut reader,
+        &mut writer,
+        &bytes[0..length],
+        &mut words,
+        &mut out,
+        none,
+    )?;
     let used = lines::put_tally_line(&mut out, 0, tally.accepted, tally.refused, tally.rows);
-    print(&rt, &out, used)
+    print(&mut writer, &out, used)
 }
