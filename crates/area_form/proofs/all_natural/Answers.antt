@@ -1,10 +1,8 @@
-use mathlib.Core.Path.{◌≡◌, sym, ◌∙◌}
-use Prim.Native.Nat.{◌+◌, ◌-◌, ◌*◌, ◌≤◌, ◌<◌}
+use mathlib.Core.Path.{sym, ◌∙◌}
+use Prim.Native.Nat.{◌+◌, ◌*◌, ◌<◌}
 use native.Mathlib.Omega.{arith}
 use borrow.Author.Rules.{rules}
-use borrow.Author.Tests.{not-true, not-false}
 use lib.ListN.{length}
-use Rattle.schema.specs.Ranges.{all_from}
 use Rattle.schema.proofs.RangeLaws.{all_start, all_none, all_stop, all_go}
 use Rattle.bridge.proofs.RowWords.{row_fits}
 use Rattle.area_form.specs.Damage.{natural_part}

@@ -1,12 +1,6 @@
-use mathlib.Core.Path.{◌≡◌, sym, ◌∙◌}
-use Prim.Native.Nat.{◌+◌, ◌-◌, ◌*◌, ◌≤◌, ◌<◌}
-use native.Mathlib.Omega.{arith}
-use borrow.Author.Rules.{rules}
-use borrow.Author.Tests.{not-true, not-false}
-use lib.ListN.{length}
+use mathlib.Core.Path.{◌≡◌}
+use Prim.Native.Nat.{◌-◌, ◌≤◌}
 use Rattle.schema.specs.Ranges.{all_from}
-use Rattle.schema.proofs.RangeLaws.{all_start, all_none, all_stop, all_go}
-use Rattle.bridge.proofs.RowWords.{row_fits}
 use Rattle.area_form.specs.Damage.{natural_part}
 use Rattle.area_form.proofs.all_natural.Given as goal
 

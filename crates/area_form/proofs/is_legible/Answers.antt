@@ -2,7 +2,6 @@ use mathlib.Core.Path.{◌≡◌, sym, ap, ap₂, ◌∙◌}
 use mathlib.Core.Bool.{true}
 use native.Mathlib.Omega.{arith}
 use borrow.Author.Rules.{rules}
-use borrow.Author.Tests.{not-true, not-false}
 use Rattle.schema.specs.Ranges.{all_from}
 use Rattle.schema.specs.Fields.{schema_of}
 use Rattle.bridge.proofs.LevelWords.{area_is}

@@ -1,4 +1,3 @@
-use borrow.Author.Rules.{rules}
 use Rattle.rules.specs.Calls.{in_table}
 use Rattle.area_form.proofs.is_place.Goals as goal
 

@@ -1,14 +1,9 @@
-use mathlib.Core.Path.{◌≡◌, sym, ap, ◌∙◌}
-use Prim.Native.Nat.{◌+◌, ◌-◌, ◌≤◌}
-use borrow.Author.Rules.{rules}
-use borrow.Author.Tests.{not-true, not-false}
-use lib.IntN.{pos}
-use lib.ListN.{get_or, take, drop}
+use mathlib.Core.Path.{◌≡◌}
+use Prim.Native.Nat.{◌-◌, ◌≤◌}
+use lib.ListN.{take, drop}
 use Rattle.schema.specs.Fields.{schema_of}
-use Rattle.rules.specs.Values.{in_range}
 use Rattle.rules.specs.State.{kept_in_range}
-use Rattle.area_form.specs.Damage.{kept_limit}
-use Rattle.area_form.proofs.DamageLaws.{kept_from, kept_start, kept_none, kept_stop, kept_go}
+use Rattle.area_form.proofs.DamageLaws.{kept_from}
 use Rattle.area_form.proofs.kept_in_range.Given as goal
 
 abbrev pub invariant-loop-k : goal.invariant-loop-k

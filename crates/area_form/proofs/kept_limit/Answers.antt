@@ -1,6 +1,5 @@
 use mathlib.Core.Path.{ap, ◌∙◌}
 use native.Mathlib.Omega.{arith}
-use borrow.Author.Rules.{rules}
 use Rattle.schema.specs.Fields.{schema_of}
 use Rattle.schema.specs.Records.{table_of}
 use Rattle.area_form.proofs.DamageLaws.{limit_past, limit_is}

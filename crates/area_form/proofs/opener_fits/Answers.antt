@@ -1,6 +1,5 @@
 use mathlib.Core.Path.{sym, ap, ◌∙◌}
 use mathlib.Core.Bool.{◌&&◌}
-use borrow.Author.Rules.{rules}
 use lib.Dec.{leb, eqb}
 use Rattle.area_form.proofs.DamageLaws.{opener_none, opener_some}
 use Rattle.area_form.proofs.opener_fits.Goals as goal

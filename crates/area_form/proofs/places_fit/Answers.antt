@@ -1,14 +1,11 @@
 use mathlib.Core.Path.{◌≡◌, sym, ap, ◌∙◌}
-use Prim.Native.Nat.{◌+◌, ◌-◌, ◌*◌, ◌≤◌, ◌<◌}
+use Prim.Native.Nat.{◌+◌, ◌*◌, ◌<◌}
 use native.Mathlib.Omega.{arith}
 use borrow.Author.Rules.{rules}
-use borrow.Author.Tests.{not-true, not-false}
 use lib.ListN.{length}
-use Rattle.schema.specs.Ranges.{all, all_from}
+use Rattle.schema.specs.Ranges.{all_from}
 use Rattle.schema.specs.Fields.{schema_of}
 use Rattle.schema.proofs.RangeLaws.{all_start, all_none, all_stop, all_go}
-use Rattle.rules.specs.State.{placed}
-use Rattle.rules.specs.Area.{view}
 use Rattle.bridge.proofs.LevelWords.{area_is, used_few}
 use Rattle.area_form.proofs.DamageLaws.{placed_part, placed_part_lem, placed_is, fit_long}
 use Rattle.area_form.proofs.places_fit.Goals as goal

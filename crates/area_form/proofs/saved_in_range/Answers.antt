@@ -1,14 +1,11 @@
-use mathlib.Core.Path.{◌≡◌, sym, ap, ◌∙◌}
-use Prim.Native.Nat.{◌+◌, ◌-◌, ◌*◌, ◌≤◌}
+use mathlib.Core.Path.{sym, ap, ◌∙◌}
+use Prim.Native.Nat.{◌+◌, ◌*◌, ◌≤◌}
 use native.Mathlib.Omega.{arith}
 use borrow.Author.Rules.{rules}
-use borrow.Author.Tests.{not-true, not-false}
 use lib.ListN.{length}
-use Rattle.schema.specs.Ranges.{all, all_from}
+use Rattle.schema.specs.Ranges.{all_from}
 use Rattle.schema.specs.Fields.{schema_of}
 use Rattle.schema.proofs.RangeLaws.{all_start, all_none, all_stop, all_go}
-use Rattle.rules.specs.State.{saved_in_range}
-use Rattle.rules.specs.Area.{view}
 use Rattle.bridge.proofs.LevelWords.{levels_few}
 use Rattle.area_form.proofs.DamageLaws.{saved_part, saved_is, fit_long}
 use Rattle.area_form.proofs.saved_in_range.Goals as goal

@@ -1,10 +1,7 @@
-use mathlib.Core.Path.{◌≡◌, sym, ap, ap₂, ◌∙◌}
-use Prim.Native.Nat.{◌-◌, ◌≤◌}
+use mathlib.Core.Path.{sym, ap, ap₂, ◌∙◌}
+use Prim.Native.Nat.{◌-◌}
 use native.Mathlib.Omega.{arith}
 use borrow.Author.Rules.{rules}
-use lib.IntN.{pos}
-use lib.ListN.{get_or}
-use Rattle.rules.specs.Values.{nat_of}
 use Rattle.rules.specs.State.{uses_rise}
 use Rattle.area_form.specs.Damage.{lowest_levels}
 use Rattle.area_form.proofs.DamageLaws.{rise_none, rise_stop, rise_go}

@@ -1,13 +1,10 @@
-use mathlib.Core.Path.{◌≡◌, sym, ap, ap₂, ◌∙◌}
-use Prim.Native.Nat.{◌-◌, ◌≤◌}
-use native.Mathlib.Omega.{arith}
-use borrow.Author.Rules.{rules}
+use mathlib.Core.Path.{◌≡◌}
+use Prim.Native.Nat.{◌≤◌}
 use lib.IntN.{pos}
 use lib.ListN.{get_or}
 use Rattle.rules.specs.Values.{nat_of}
 use Rattle.rules.specs.State.{uses_rise}
 use Rattle.area_form.specs.Damage.{lowest_levels}
-use Rattle.area_form.proofs.DamageLaws.{rise_none, rise_stop, rise_go}
 use Rattle.area_form.proofs.uses_rise.Given as goal
 
 abbrev pub invariant-loop-i : goal.invariant-loop-i
