@@ -1,5 +1,4 @@
 use mathlib.Core.Path.{sym, ◌∙◌}
-use borrow.Author.Rules.{rules}
 use Rattle.rules.specs.declared.Verdict.TheVariants.{Pass}
 use Rattle.bridge.proofs.QuestionLaws.{malformed_first}
 use Rattle.questions.proofs.area_verdict.Goals as goal

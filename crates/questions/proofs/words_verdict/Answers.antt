@@ -1,6 +1,4 @@
 use mathlib.Core.Path.{sym, ◌∙◌}
-use borrow.Author.Rules.{rules}
-use borrow.Author.Tests.{not-true, not-false}
 use Rattle.rules.specs.declared.Verdict.TheVariants.{Pass}
 use Rattle.bridge.proofs.SoundLaws.{sound_area}
 use Rattle.bridge.proofs.QuestionLaws.{length_second, damage_third, sound_passes}
