@@ -1,6 +1,5 @@
 use mathlib.Core.Path.{sym, ◌∙◌}
 use native.Mathlib.Omega.{arith}
-use borrow.Author.Rules.{rules}
 use Rattle.fresh_area.proofs.FreshLaws.{words_accepted, words_malformed}
 use Rattle.fresh_area.proofs.area_words.Goals as goal
 

@@ -1,5 +1,4 @@
 use mathlib.Core.Path.{sym, ◌∙◌}
-use borrow.Author.Rules.{rules}
 use Rattle.schema.specs.Fields.{schema_of}
 use Rattle.fresh_area.proofs.FreshLaws as law
 use Rattle.fresh_area.proofs.clear_area.Goals as goal
