@@ -1,7 +1,6 @@
 use mathlib.Core.Path.{◌∙◌}
 use Rattle.words.proofs.Signed.{back}
 use Rattle.windows.proofs.WindowLaws.{child_within}
-use borrow.Author.Rules.{rules}
 use Rattle.windows.proofs.child_days.Goals as goal
 
 pub returns : goal.returns

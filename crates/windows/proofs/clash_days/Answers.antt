@@ -1,7 +1,6 @@
 use mathlib.Core.Path.{◌∙◌}
 use Rattle.words.proofs.Signed.{back}
 use Rattle.windows.proofs.WindowLaws.{clash_sharing}
-use borrow.Author.Rules.{rules}
 use Rattle.windows.proofs.clash_days.Goals as goal
 
 pub returns : goal.returns

@@ -5,7 +5,6 @@ use Rattle.words.proofs.Signed.{back}
 use Rattle.bridge.proofs.Tests.{and_same}
 use Rattle.rules.specs.Keys.{is_within}
 use Rattle.windows.specs.Days.{day_within}
-use borrow.Author.Rules.{rules}
 use Rattle.windows.proofs.day_within.Goals as goal
 
 pub returns : goal.returns

@@ -2,14 +2,10 @@ use mathlib.Core.Path.{◌≡◌}
 use mathlib.Core.Bool.{true, false}
 use mathlib.Core.List.{[]}
 use Prim.Native.Nat.{ℕ, ◌-◌, ◌<◌, ◌≤◌}
-use native.Mathlib.Omega.{arith}
 use lib.ListN.{get_or}
 use Rattle.rows.specs.Standing.{rows_in}
 use Rattle.rows.specs.Sought.{has_sought}
-use Rattle.rows.proofs.TableLaws.{row_at_lem}
-use Rattle.scans.proofs.FirstLaws.{tested, none_more, first_stop, first_none}
-use Rattle.windows.specs.Days.{meets, is_on}
-use Rattle.windows.proofs.DayLaws.{on_key, keys_passed}
+use Rattle.windows.specs.Days.{is_on}
 use Rattle.windows.proofs.first_on.Given as goal
 
 abbrev pub invariant-loop-j : goal.invariant-loop-j

@@ -3,7 +3,6 @@ use mathlib.Core.Bool.{Bool, not, ◌&&◌}
 use Rattle.rules.specs.Rows.{null_at}
 use Rattle.windows.specs.WindowKey.{child_pairs}
 use Rattle.windows.proofs.WindowLaws.{child_full}
-use borrow.Author.Rules.{rules}
 use Rattle.windows.proofs.full_child.Goals as goal
 
 pub returns-then-image_full_key : goal.returns-then-image_full_key

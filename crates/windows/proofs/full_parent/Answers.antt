@@ -2,12 +2,10 @@ use mathlib.Core.Path.{sym, ap, ◌∙◌}
 use mathlib.Core.Bool.{Bool, not, ◌&&◌}
 use Prim.Native.Nat.{ℕ, suc}
 use native.Mathlib.Numerals.{add-one}
-use borrow.Author.Tests.{not-true, not-false}
 use Rattle.rules.specs.Rows.{null_at}
 use Rattle.bridge.proofs.Tests.{and_same}
 use Rattle.windows.specs.WindowKey.{parent_pairs}
 use Rattle.windows.proofs.WindowLaws.{parent_full}
-use borrow.Author.Rules.{rules}
 use Rattle.windows.proofs.full_parent.Goals as goal
 
 pub returns-then-not-image_full_key : goal.returns-then-not-image_full_key

@@ -3,7 +3,6 @@ use Prim.Native.Nat.{ℕ}
 use mathlib.Core.List.{List}
 use Rattle.rules.specs.Keys.{half_key}
 use Rattle.windows.proofs.WindowLaws.{child_array, child_array_in}
-use borrow.Author.Rules.{rules}
 use Rattle.windows.proofs.half_child.Goals as goal
 
 pub image_half_key-requires : goal.image_half_key-requires

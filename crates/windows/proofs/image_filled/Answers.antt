@@ -4,7 +4,6 @@ use Rattle.words.proofs.Signed.{back}
 use Rattle.schema.specs.Bytes.{bit}
 use Rattle.rules.specs.Values.{nat_of}
 use Rattle.rules.specs.Rows.{null_at}
-use borrow.Author.Rules.{rules}
 use Rattle.windows.proofs.image_filled.Goals as goal
 
 pub returns : goal.returns

@@ -5,7 +5,6 @@ use lib.ListN.{get_or}
 use Rattle.words.proofs.Signed.{back}
 use Rattle.rules.specs.Lists.{𝟘}
 use Rattle.rules.specs.Rows.{value_at}
-use borrow.Author.Rules.{rules}
 use Rattle.windows.proofs.image_value.Goals as goal
 
 pub returns : goal.returns

@@ -6,7 +6,6 @@ use Rattle.words.proofs.Signed.{back}
 use Rattle.bridge.proofs.Tests.{and_same}
 use Rattle.rules.specs.Rows.{null_at, value_at}
 use Rattle.rules.specs.Keys.{first_day, end_day, is_within, in_window}
-use borrow.Author.Rules.{rules}
 use Rattle.windows.proofs.in_window.Goals as goal
 
 pub returns : goal.returns

@@ -4,7 +4,6 @@ use lib.Signed.{le_z}
 use Rattle.words.proofs.Signed.{back}
 use Rattle.rules.specs.Rows.{value_at}
 use Rattle.rules.specs.Keys.{first_day, end_day}
-use borrow.Author.Rules.{rules}
 use Rattle.windows.proofs.is_empty.Goals as goal
 
 pub returns : goal.returns

@@ -2,7 +2,6 @@ use mathlib.Core.Path.{sym, ap, ◌∙◌}
 use mathlib.Core.Bool.{not}
 use Rattle.schema.specs.Bytes.{bit}
 use Rattle.rows.proofs.CellLaws.{null_in_lem}
-use borrow.Author.Rules.{rules}
 use Rattle.windows.proofs.is_filled.Goals as goal
 
 pub returns : goal.returns

@@ -1,13 +1,11 @@
 use mathlib.Core.Path.{sym, ap, ap₂, ◌∙◌}
 use native.Mathlib.Numerals.{add-one}
-use borrow.Author.Tests.{not-true, not-false}
 use lib.Signed.{le_z}
 use Rattle.words.proofs.Signed.{back}
 use Rattle.rules.specs.Rows.{value_at}
 use Rattle.rules.specs.Keys.{first_day, end_day}
 use Rattle.bridge.proofs.Tests.{and_same}
 use Rattle.windows.proofs.WindowLaws.{days_gone, days_stay}
-use borrow.Author.Rules.{rules}
 use Rattle.windows.proofs.keeps_days.Goals as goal
 
 pub returns-then-not-keeps_pairs : goal.returns-then-not-keeps_pairs

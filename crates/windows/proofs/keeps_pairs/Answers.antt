@@ -1,8 +1,6 @@
 use mathlib.Core.Path.{sym, ◌∙◌}
-use borrow.Author.Tests.{not-true, not-false}
 use Rattle.windows.specs.WindowKey.{pair_folds, parent_pairs}
 use Rattle.windows.proofs.WindowLaws.{pairs_gone, pairs_stay}
-use borrow.Author.Rules.{rules}
 use Rattle.windows.proofs.keeps_pairs.Goals as goal
 
 pub returns-then-not-full_parent : goal.returns-then-not-full_parent

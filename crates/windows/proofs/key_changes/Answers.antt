@@ -1,9 +1,7 @@
 use mathlib.Core.Path.{sym, ap, ◌∙◌}
 use mathlib.Core.Bool.{not}
-use borrow.Author.Tests.{not-true, not-false}
 use Rattle.windows.specs.WindowKey.{pair_folds, parent_pairs}
 use Rattle.windows.proofs.WindowLaws.{stays_null, changes_gone, changes_pairs, changes_window}
-use borrow.Author.Rules.{rules}
 use Rattle.windows.proofs.key_changes.Goals as goal
 
 pub returns-then-not-full_parent : goal.returns-then-not-full_parent

@@ -1,13 +1,11 @@
 use mathlib.Core.Path.{sym, ap, ap₂, ◌∙◌}
 use native.Mathlib.Numerals.{add-one}
-use borrow.Author.Tests.{not-true, not-false}
 use Rattle.words.proofs.Signed.{back}
 use Rattle.rules.specs.Rows.{value_at}
 use Rattle.rules.specs.Keys.{first_day, end_day}
 use Rattle.windows.specs.declared.Days.TheVariants.{Within}
 use Rattle.windows.specs.WindowKey.{left_first, left_end}
 use Rattle.windows.proofs.WindowLaws.{left_all, left_some}
-use borrow.Author.Rules.{rules}
 use Rattle.windows.proofs.left_days.Goals as goal
 
 pub returns-then-not-keeps_pairs : goal.returns-then-not-keeps_pairs

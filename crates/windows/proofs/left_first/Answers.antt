@@ -4,7 +4,6 @@ use mir.Syntax.{w64}
 use mir.ValLaws.{to_z-of_z}
 use Rattle.rules.specs.Keys.{is_within}
 use Rattle.windows.specs.WindowKey.{left_first}
-use borrow.Author.Rules.{rules}
 use Rattle.windows.proofs.left_first.Goals as goal
 
 -- the day is in the other window

@@ -1,7 +1,6 @@
 use mathlib.Core.Path.{◌∙◌}
 use Rattle.words.proofs.Signed.{back}
 use Rattle.windows.proofs.WindowLaws.{parent_holding}
-use borrow.Author.Rules.{rules}
 use Rattle.windows.proofs.parent_days.Goals as goal
 
 pub returns : goal.returns

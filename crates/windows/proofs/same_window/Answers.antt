@@ -4,7 +4,6 @@ use Prim.Native.Nat.{ℕ}
 use native.Mathlib.Numerals.{add-one}
 use Rattle.bridge.proofs.Tests.{and_same}
 use Rattle.rules.specs.Keys.{same_cell, same_window}
-use borrow.Author.Rules.{rules}
 use Rattle.windows.proofs.same_window.Goals as goal
 
 pub returns : goal.returns

@@ -1,8 +1,6 @@
 use mathlib.Core.Path.{sym, ◌∙◌}
-use borrow.Author.Tests.{not-true, not-false}
 use Rattle.windows.specs.WindowKey.{pair_folds, child_pairs, parent_pairs}
 use Rattle.windows.proofs.WindowLaws.{serves_gone, serves_none, serves_window}
-use borrow.Author.Rules.{rules}
 use Rattle.windows.proofs.serves.Goals as goal
 
 pub returns-then-not-image_live : goal.returns-then-not-image_live

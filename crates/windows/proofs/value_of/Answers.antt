@@ -1,7 +1,6 @@
 use mathlib.Core.Path.{sym, ◌∙◌}
 use Rattle.words.proofs.Signed.{back}
 use Rattle.rows.proofs.CellLaws.{value_in}
-use borrow.Author.Rules.{rules}
 use Rattle.windows.proofs.value_of.Goals as goal
 
 pub returns : goal.returns

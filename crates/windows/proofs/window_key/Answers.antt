@@ -1,5 +1,4 @@
 use Rattle.windows.proofs.KeyDays.{pairs_number, window_columns}
-use borrow.Author.Rules.{rules}
 use Rattle.windows.proofs.window_key.Goals as goal
 
 pub pairs_of-pairs-requires : goal.pairs_of-pairs-requires

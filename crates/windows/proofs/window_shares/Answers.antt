@@ -10,7 +10,6 @@ use Rattle.bridge.proofs.Tests.{and_same}
 use Rattle.rules.specs.Rows.{null_at, value_at}
 use Rattle.rules.specs.Keys.{shares_day}
 use Rattle.windows.specs.Days.{window_shares}
-use borrow.Author.Rules.{rules}
 use Rattle.windows.proofs.window_shares.Goals as goal
 
 pub returns : goal.returns
