@@ -1,8 +1,6 @@
 use mathlib.Core.Path.{sym, ◌∙◌}
-use borrow.Author.Tests.{not-true, not-false}
 use Rattle.windows.proofs.KeyDays.{window_in}
 use Rattle.window_keys.proofs.ClashLaws.{full_by, bad_elsewhere, bad_null, bad_empty, bad_clash}
-use borrow.Author.Rules.{rules}
 use Rattle.window_keys.proofs.bad_window.Goals as goal
 
 pub returns-then-parent-t : goal.returns-then-parent-t

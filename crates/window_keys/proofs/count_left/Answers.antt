@@ -1,35 +1,21 @@
 use mathlib.Core.Path.{◌≡◌, sym, ap, ◌∙◌}
-use mathlib.Core.Bool.{Bool, true}
-use mathlib.Core.List.{List, []}
-use mathlib.Core.Logic.{⊎_elim}
-use Prim.Native.Nat.{ℕ, ◌+◌, ◌-◌, ◌≤◌, ◌<◌}
+use mathlib.Core.List.{[]}
 use native.Mathlib.Nat.{zero-add}
 use native.Mathlib.Omega.{arith}
-use lib.IntN.{ℤ}
-use lib.ListN.{get_or, drop}
+use lib.ListN.{get_or}
 use Rattle.schema.specs.Records.{key_of}
 use Rattle.schema.specs.Fields.{schema_of}
-use Rattle.rules.specs.Lists.{count, except, one}
-use Rattle.rules.specs.Rows.{Row}
-use Rattle.bridge.specs.Fit.{work_of}
-use Rattle.rows.specs.declared.SoughtKey.{SoughtKey}
+use Rattle.rules.specs.Lists.{count, one}
 use Rattle.rows.specs.Standing.{rows_in}
 use Rattle.rows.proofs.TableLaws.{row_at_lem}
 use Rattle.scans.proofs.FirstLaws.{count_searched, count_turn, count_end}
-use Rattle.windows.specs.declared.Days.{Days}
 use Rattle.windows.specs.Days.{is_on}
 use Rattle.windows.proofs.KeyDays.{window_in}
 use Rattle.window_keys.proofs.OrphanLaws.{same_count, parent_pairs_lem}
 use Rattle.window_keys.proofs.LeftLaws.{left_row, found_full, found_left, passed_over, taken_ready, found_taken, count_found}
+use Rattle.window_keys.proofs.count_left.Invariants.{others_of, left_found_row}
 use Rattle.window_keys.proofs.count_left.Goals as goal
-
--- the parent rows but row r
-abbrev others_of : List ℕ → List ℤ → ℕ → ℕ → List Row
-others_of schema area k r = except r (get_or (work_of (schema_of schema) area).tabs (key_of (schema_of schema) k).parent [])
-
--- a row that is found and left
-abbrev Left : List ℕ → List ℤ → ℕ → ℕ → Bool → Row → SoughtKey → Days → Row → Bool
-Left schema area k r clear y sought days = left_row (is_on sought days) clear (key_of (schema_of schema) k) y (others_of schema area k r)
+use Rattle.window_keys.proofs.count_left.Goals.{then-is_left, else-is_left}
 
 pub sought_key-sought-requires : goal.sought_key-sought-requires
 sought_key-sought-requires c =
@@ -50,7 +36,7 @@ loop-j-init c =
     let sought = c.sought_key-sought.result in
     let days = c.left_days-days.result in
     let f = c.first_on-j.ensures in
-    let P = Left a.schema.now a.area.now a.k a.r a.clear a.y sought days in
+    let P = left_found_row a.schema.now a.area.now a.k a.r a.clear a.y sought days in
     let passed = passed_over (is_on sought days) a.clear (key_of (schema_of a.schema.now) a.k) a.y (others_of a.schema.now a.area.now a.k a.r) in
     ((f.high, omega arith), (zero-add _ ∙ sym (count_searched P a.area.now a.children passed f), f.found))
 
@@ -112,10 +98,10 @@ loop-j-preserved c =
     let f = c.first_on-j-in-loop-j.ensures in
     let judged = found_left a.area.now a.children loop.j taken c.image_at-child.ensures on (loop.invariant.1.1 taken) a.clear K a.y others c.is_left.ensures in
     let more = count_turn (left_row on a.clear K a.y others) a.area.now a.children (passed_over on a.clear K a.y others) taken judged f in
-    ⊎_elim
-    (λ w. let hit = ap one w.0.taken in ((f.high, omega (arith, loop.invariant.0.1, f.low)), (omega (arith, loop.invariant.1.0, more, hit), f.found)))
-    (λ w. let miss = ap one w.0.left in ((f.high, omega (arith, loop.invariant.0.1, f.low)), (omega (arith, loop.invariant.1.0, more, miss), f.found)))
-    c.if-is_left.branch
+    elim c.if-is_left.branch [
+      | then-is_left w ↦ let hit = ap one w.if-is_left.true in ((f.high, omega (arith, loop.invariant.0.1, f.low, w.m-is)), (omega (arith, loop.invariant.1.0, more, hit, w.m-is), f.found))
+      | else-is_left w ↦ let miss = ap one w.if-is_left.false in ((f.high, omega (arith, loop.invariant.0.1, f.low, w.m-is)), (omega (arith, loop.invariant.1.0, more, miss, w.m-is), f.found))
+    ]
 
 pub returns : goal.returns
 returns c =

@@ -8,7 +8,6 @@ use Rattle.rows.proofs.TableLaws.{rows_are, standing, parent_in}
 use Rattle.windows.specs.WindowKey.{parent_pairs}
 use Rattle.windows.proofs.KeyDays.{window_in, some_pairs, parent_pairs_full}
 use Rattle.window_keys.proofs.ClashLaws.{clash_in, clash_any}
-use borrow.Author.Rules.{rules}
 use Rattle.window_keys.proofs.has_clash.Goals as goal
 
 pub sought_key-sought-requires : goal.sought_key-sought-requires

@@ -7,7 +7,6 @@ use Rattle.schema.specs.declared.Match.{Match}
 use Rattle.schema.specs.declared.Match.TheVariants.{Simple, Full}
 use Rattle.rules.specs.Keys.{half_key, half_due}
 use Rattle.windows.proofs.KeyDays.{window_in, child_all_lem}
-use borrow.Author.Rules.{rules}
 use Rattle.window_keys.proofs.is_half_due.Goals as goal
 
 pub half_child-requires : goal.half_child-requires

@@ -1,9 +1,7 @@
 use mathlib.Core.Path.{sym, ◌∙◌}
 use native.Mathlib.Omega.{arith}
-use borrow.Author.Tests.{not-true, not-false}
 use Rattle.schema.proofs.SchemaLaws.{accepted_valid}
 use Rattle.window_keys.proofs.ClashLaws.{windowed_key, bad_off}
-use borrow.Author.Rules.{rules}
 use Rattle.window_keys.proofs.key_bad_window.Goals as goal
 
 pub bit_of-requires : goal.bit_of-requires

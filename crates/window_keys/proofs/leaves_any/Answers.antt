@@ -14,7 +14,6 @@ use Rattle.windows.proofs.KeyDays.{window_in}
 use Rattle.windows.proofs.LeftDays.{kept_served}
 use Rattle.window_keys.proofs.OrphanLaws.{whole}
 use Rattle.window_keys.proofs.LeftLaws.{parents_some, children_stand, children_are, some_left, none_left}
-use borrow.Author.Rules.{rules}
 use Rattle.window_keys.proofs.leaves_any.Goals as goal
 
 pub keeps_days-requires : goal.keeps_days-requires

@@ -14,7 +14,6 @@ use Rattle.scans.proofs.ScanLaws.{count_parts, parts_few}
 use Rattle.windows.proofs.KeyDays.{window_in}
 use Rattle.windows.proofs.LeftDays.{kept_served}
 use Rattle.window_keys.proofs.LeftLaws.{left_row, parents_there, children_stand, children_are, fires_full, stranded_none, left_all, left_besides, before_there, after_there, own_row}
-use borrow.Author.Rules.{rules}
 use Rattle.window_keys.proofs.left_rows.Goals as goal
 
 pub keeps_days-requires : goal.keeps_days-requires

@@ -1,16 +1,11 @@
-use mathlib.Core.Path.{◌≡◌, refl, sym, ◌∙◌}
+use mathlib.Core.Path.{◌≡◌}
 use mathlib.Core.List.{[]}
 use Prim.Native.Nat.{◌-◌, ◌≤◌}
-use native.Mathlib.Omega.{arith}
-use borrow.Author.Rules.{rules}
 use lib.ListN.{length, get_or, drop}
-use Rattle.schema.specs.Records.{no_key}
 use Rattle.schema.specs.Fields.{schema_of}
 use Rattle.rules.specs.Lists.{any}
 use Rattle.rules.specs.Change.{bad_window}
 use Rattle.bridge.specs.Fit.{work_of}
-use Rattle.bridge.proofs.LoopLaws.{any_none, any_hit, any_miss}
-use Rattle.window_keys.proofs.ClashLaws.{bad_empty_mask}
 use Rattle.window_keys.proofs.windows_broken.Given as goal
 
 abbrev pub invariant-loop-k : goal.invariant-loop-k
