@@ -1,13 +1,11 @@
-use mathlib.Core.Path.{◌≡◌, ap}
-use mathlib.Core.Logic.{⊎_elim}
-use Prim.Native.Nat.{◌+◌, ◌-◌, ◌≤◌}
+use mathlib.Core.Path.{ap}
 use native.Mathlib.Nat.{zero-add}
 use native.Mathlib.Omega.{arith}
 use borrow.Author.Rules.{rules}
-use lib.ListN.{drop}
-use Rattle.rules.specs.Lists.{count, one}
-use Rattle.orphans.proofs.OrphanLaws.{child_rows, is_alone, orphans_are, one_less, row_whole, searched_few, searched_none}
+use Rattle.rules.specs.Lists.{one}
+use Rattle.orphans.proofs.OrphanLaws.{orphans_are, one_less, row_whole, searched_few, searched_none}
 use Rattle.orphans.proofs.count_orphans.Goals as goal
+use Rattle.orphans.proofs.count_orphans.Goals.{then-is_orphan, else-is_orphan}
 
 pub loop-j-init : goal.loop-j-init
 loop-j-init c = (search rules, (search rules, zero-add _))
@@ -25,9 +23,10 @@ loop-j-preserved c =
     let loop_test = c.loop-j-test in
     let less = one_less _ _ _ c.requires.0 _ (row_whole _ c.args.area.now _ _ searched loop.j loop_test.true) loop.j loop_test.true c.is_orphan.ensures in (
       omega arith,
-      ⊎_elim (λ w. let hit = ap one w.0.taken in (omega arith, omega (arith, less, hit)))
-          (λ w. let miss = ap one w.0.left in (omega arith, omega (arith, less, miss)))
-          c.if-is_orphan.branch,
+      elim c.if-is_orphan.branch [
+        | then-is_orphan w ↦ let hit = ap one w.if-is_orphan.true in (omega (arith, w.m-is), omega (arith, less, hit, w.m-is))
+        | else-is_orphan w ↦ let miss = ap one w.if-is_orphan.false in (omega (arith, w.m-is), omega (arith, less, miss, w.m-is))
+      ],
     )
 
 pub returns : goal.returns

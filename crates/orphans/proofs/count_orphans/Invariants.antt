@@ -1,12 +1,8 @@
-use mathlib.Core.Path.{◌≡◌, ap}
-use mathlib.Core.Logic.{⊎_elim}
+use mathlib.Core.Path.{◌≡◌}
 use Prim.Native.Nat.{◌+◌, ◌-◌, ◌≤◌}
-use native.Mathlib.Nat.{zero-add}
-use native.Mathlib.Omega.{arith}
-use borrow.Author.Rules.{rules}
 use lib.ListN.{drop}
-use Rattle.rules.specs.Lists.{count, one}
-use Rattle.orphans.proofs.OrphanLaws.{child_rows, is_alone, orphans_are, one_less, row_whole, searched_few, searched_none}
+use Rattle.rules.specs.Lists.{count}
+use Rattle.orphans.proofs.OrphanLaws.{child_rows, is_alone}
 use Rattle.orphans.proofs.count_orphans.Given as goal
 
 abbrev pub invariant-loop-j : goal.invariant-loop-j

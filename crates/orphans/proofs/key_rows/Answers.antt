@@ -1,6 +1,5 @@
 use mathlib.Core.Path.{subst}
 use Prim.Native.Nat.{ℕ}
-use borrow.Author.Rules.{rules}
 use Rattle.rows.specs.Standing.{RowsOf}
 use Rattle.rows.proofs.TableLaws.{parent_table}
 use Rattle.orphans.proofs.key_rows.Goals as goal

@@ -1,6 +1,5 @@
 use mathlib.Core.Path.{sym, ◌∙◌}
 use mathlib.Core.Bool.{true≢false}
-use borrow.Author.Rules.{rules}
 use Rattle.orphans.proofs.searched_rows.Goals as goal
 
 pub returns-then-is_broken : goal.returns-then-is_broken
