@@ -1,7 +1,6 @@
 use mathlib.Core.Path.{◌∙◌}
 use Rattle.rows.proofs.TableLaws.{parent_wide}
 use Rattle.row_orphans.proofs.KeyLaws.{parents_stand, parents_sought, twin_is}
-use borrow.Author.Rules.{rules}
 use Rattle.row_orphans.proofs.has_twin.Goals as goal
 
 pub sought_key-key-requires : goal.sought_key-key-requires

@@ -1,12 +1,10 @@
 use mathlib.Core.Path.{sym, ◌∙◌}
 use native.Mathlib.Omega.{arith}
-use borrow.Author.Tests.{not-true}
 use Rattle.schema.specs.Records.{key_of}
 use Rattle.schema.specs.Fields.{schema_of}
 use Rattle.rules.specs.Lists.{one}
 use Rattle.bridge.specs.Fit.{work_of}
 use Rattle.row_orphans.proofs.KeyLaws.{own_other, own_vacant, own_is}
-use borrow.Author.Rules.{rules}
 use Rattle.row_orphans.proofs.own_orphan.Goals as goal
 
 pub returns-then-child-t : goal.returns-then-child-t

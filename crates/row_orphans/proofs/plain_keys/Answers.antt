@@ -1,4 +1,3 @@
-use borrow.Author.Rules.{rules}
 use Rattle.row_orphans.proofs.MaskLaws.{plain_all, plain_rest}
 use Rattle.row_orphans.proofs.plain_keys.Goals as goal
 

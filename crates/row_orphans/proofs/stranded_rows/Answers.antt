@@ -1,12 +1,10 @@
 use mathlib.Core.Path.{sym, ◌∙◌}
 use native.Mathlib.Omega.{arith}
-use borrow.Author.Tests.{not-true, not-false}
 use Rattle.schema.specs.Records.{key_of}
 use Rattle.schema.specs.Fields.{schema_of}
 use Rattle.schema.proofs.FieldLaws.{same_width}
 use Rattle.bridge.specs.Fit.{work_of}
 use Rattle.row_orphans.proofs.KeyLaws.{none_other, none_fires, none_taken, fires_full, twin_serves, all_stranded}
-use borrow.Author.Rules.{rules}
 use Rattle.row_orphans.proofs.stranded_rows.Goals as goal
 
 pub returns-then-parent-t : goal.returns-then-parent-t

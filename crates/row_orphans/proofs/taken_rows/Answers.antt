@@ -1,7 +1,6 @@
 use mathlib.Core.Path.{◌∙◌}
 use Rattle.rows.proofs.TableLaws.{parent_wide}
 use Rattle.row_orphans.proofs.KeyLaws.{children_stand, children_sought, children_few, row_below, taken_others, taken_all}
-use borrow.Author.Rules.{rules}
 use Rattle.row_orphans.proofs.taken_rows.Goals as goal
 
 pub sought_key-key-requires : goal.sought_key-key-requires

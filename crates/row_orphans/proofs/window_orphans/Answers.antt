@@ -1,7 +1,6 @@
 use mathlib.Core.Path.{ap₂}
 use Prim.Native.Nat.{◌+◌}
 use native.Mathlib.Omega.{arith}
-use borrow.Author.Rules.{rules}
 use Rattle.row_orphans.specs.RowOrphans.{row_orphans}
 use Rattle.row_orphans.proofs.window_orphans.Goals as goal
 

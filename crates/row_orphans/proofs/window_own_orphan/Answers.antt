@@ -1,7 +1,6 @@
 use mathlib.Core.Path.{sym, ◌∙◌, subst}
 use Prim.Native.Nat.{ℕ}
 use native.Mathlib.Omega.{arith}
-use borrow.Author.Rules.{rules}
 use Rattle.schema.specs.Records.{key_of}
 use Rattle.schema.specs.Fields.{schema_of}
 use Rattle.rules.specs.Lists.{one}

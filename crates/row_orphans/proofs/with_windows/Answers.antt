@@ -1,20 +1,19 @@
-use mathlib.Core.Path.{◌≡◌, ap, ◌∙◌}
-use mathlib.Core.Logic.{⊎_elim}
-use Prim.Native.Nat.{◌-◌, ◌<◌, ◌≤◌}
+use mathlib.Core.Path.{ap, ◌∙◌}
+use Prim.Native.Nat.{◌<◌}
 use native.Mathlib.Omega.{arith}
 use borrow.Author.Rules.{rules}
 use lib.IntN.{pos}
-use lib.ListN.{length, take, length-set}
-use lib.Seq.{sets}
+use lib.ListN.{length, length-set}
 use Rattle.schema.specs.Fields.{schema_of}
 use Rattle.schema.specs.Records.{Schema, key_of}
 use Rattle.rules.specs.Rows.{Tables}
 use Rattle.bridge.specs.Fit.{work_of}
 use Rattle.words.proofs.Signed.{back}
-use Rattle.row_orphans.specs.RowOrphans.{row_orphans, plain_counts}
+use Rattle.row_orphans.specs.RowOrphans.{row_orphans}
 use Rattle.row_orphans.proofs.MaskLaws.{with_window, without_window}
-use Rattle.row_orphans.proofs.CountLaws.{row_list, put_in, left_as, all_in}
+use Rattle.row_orphans.proofs.CountLaws.{put_in, left_as, all_in}
 use Rattle.row_orphans.proofs.with_windows.Goals as goal
+use Rattle.row_orphans.proofs.with_windows.Goals.{then-bit_of, else-bit_of}
 
 pub loop-k-init : goal.loop-k-init
 loop-k-init c = (search rules, (search rules, c.requires.1.1))
@@ -36,13 +35,13 @@ loop-k-preserved c =
     let l = c.loop-k in
     let lt : l.k < length s.keys = omega (arith, c.key_count-n.ensures.0) in (
       search rules,
-      ⊎_elim
-          (λ w.
-          let z = back _ w.2.ok ∙ w.2.ensures ∙ ap pos {y = row_orphans (key_of s l.k) a.t a.r a.x a.y tabs} w.1.ensures.0 in
-          (rw w.3 (simp length-set l.invariant.1.0), rw w.3 (put_in s a.t a.r a.x a.y tabs l.k l.invariant.1.1 lt z)))
-          (λ w.
-          (rw w.1 l.invariant.1.0, rw w.1 (left_as s a.t a.r a.x a.y tabs l.k l.invariant.1.1 lt (without_window c.requires.1.0 l.k lt c.bit_of.ensures w.0.left))))
-          c.if-bit_of.branch,
+      elim c.if-bit_of.branch [
+        | then-bit_of w ↦
+            let z = back _ w.word_of.type_inv ∙ w.word_of.ensures ∙ ap pos {y = row_orphans (key_of s l.k) a.t a.r a.x a.y tabs} w.window_orphans-c.ensures.0 in
+            (rw w.counts-is (simp length-set l.invariant.1.0), rw w.counts-is (put_in s a.t a.r a.x a.y tabs l.k l.invariant.1.1 lt z))
+        | else-bit_of w ↦
+            (rw w.counts-is l.invariant.1.0, rw w.counts-is (left_as s a.t a.r a.x a.y tabs l.k l.invariant.1.1 lt (without_window c.requires.1.0 l.k lt c.bit_of.ensures w.if-bit_of.false)))
+      ],
     )
 
 pub returns : goal.returns

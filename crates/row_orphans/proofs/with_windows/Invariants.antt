@@ -1,19 +1,13 @@
-use mathlib.Core.Path.{◌≡◌, ap, ◌∙◌}
-use mathlib.Core.Logic.{⊎_elim}
-use Prim.Native.Nat.{◌-◌, ◌<◌, ◌≤◌}
-use native.Mathlib.Omega.{arith}
-use borrow.Author.Rules.{rules}
-use lib.IntN.{pos}
-use lib.ListN.{length, take, length-set}
+use mathlib.Core.Path.{◌≡◌}
+use Prim.Native.Nat.{◌-◌, ◌≤◌}
+use lib.ListN.{length, take}
 use lib.Seq.{sets}
 use Rattle.schema.specs.Fields.{schema_of}
-use Rattle.schema.specs.Records.{Schema, key_of}
+use Rattle.schema.specs.Records.{Schema}
 use Rattle.rules.specs.Rows.{Tables}
 use Rattle.bridge.specs.Fit.{work_of}
-use Rattle.words.proofs.Signed.{back}
-use Rattle.row_orphans.specs.RowOrphans.{row_orphans, plain_counts}
-use Rattle.row_orphans.proofs.MaskLaws.{with_window, without_window}
-use Rattle.row_orphans.proofs.CountLaws.{row_list, put_in, left_as, all_in}
+use Rattle.row_orphans.specs.RowOrphans.{plain_counts}
+use Rattle.row_orphans.proofs.CountLaws.{row_list}
 use Rattle.row_orphans.proofs.with_windows.Given as goal
 
 abbrev pub invariant-loop-k : goal.invariant-loop-k
