@@ -1,14 +1,7 @@
-use mathlib.Core.Path.{◌≡◌, refl, ◌∙◌}
-use mathlib.Core.List.{◌∷◌}
-use Prim.Native.Nat.{◌+◌, ◌-◌, ◌<◌}
+use mathlib.Core.Path.{refl, ◌∙◌}
 use native.Mathlib.Omega.{arith}
-use borrow.Author.Rules.{rules}
-use lib.ListN.{length}
-use Rattle.schema.specs.Fields.{schema_of}
 use Rattle.schema.proofs.SchemaLaws.{accepted_valid}
-use Rattle.orphans.specs.KeyRows.{Searched}
 use Rattle.orphans.proofs.OrphanLaws.{searched_few}
-use Rattle.orphan_scan.specs.Scan.{orphans_left}
 use Rattle.orphan_scan.proofs.ScanLaws.{key_more, left_next}
 use Rattle.orphan_scan.proofs.next_orphan.Goals as goal
 

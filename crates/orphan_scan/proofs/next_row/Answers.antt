@@ -1,9 +1,6 @@
-use mathlib.Core.Path.{◌≡◌, refl, ◌∙◌}
-use Prim.Native.Nat.{◌-◌}
+use mathlib.Core.Path.{refl, ◌∙◌}
 use native.Mathlib.Omega.{arith}
-use borrow.Author.Rules.{rules}
 use Rattle.orphans.proofs.OrphanLaws.{row_whole}
-use Rattle.orphan_scan.specs.Scan.{orphans_left}
 use Rattle.orphan_scan.proofs.ScanLaws.{left_hit, left_miss}
 use Rattle.orphan_scan.proofs.next_row.Goals as goal
 

@@ -1,10 +1,6 @@
-use mathlib.Core.Path.{◌≡◌, refl, ◌∙◌}
+use mathlib.Core.Path.{◌≡◌}
 use Prim.Native.Nat.{◌-◌}
-use native.Mathlib.Omega.{arith}
-use borrow.Author.Rules.{rules}
-use Rattle.orphans.proofs.OrphanLaws.{row_whole}
 use Rattle.orphan_scan.specs.Scan.{orphans_left}
-use Rattle.orphan_scan.proofs.ScanLaws.{left_hit, left_miss}
 use Rattle.orphan_scan.proofs.next_row.Given as goal
 
 abbrev pub invariant-loop-j : goal.invariant-loop-j

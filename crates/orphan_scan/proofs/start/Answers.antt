@@ -1,5 +1,4 @@
 use native.Mathlib.Omega.{arith}
-use borrow.Author.Rules.{rules}
 use Rattle.orphan_scan.proofs.start.Goals as goal
 
 pub returns-then-key_count-eq0 : goal.returns-then-key_count-eq0
