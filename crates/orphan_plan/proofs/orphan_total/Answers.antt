@@ -1,11 +1,7 @@
-use mathlib.Core.Path.{◌≡◌}
-use Prim.Native.Nat.{◌+◌, ◌*◌, ◌-◌, ◌≤◌}
 use native.Mathlib.Nat.{zero-add}
 use native.Mathlib.Omega.{arith}
 use borrow.Author.Rules.{rules}
-use lib.ListN.{drop}
 use Rattle.schema.specs.Fields.{schema_of}
-use Rattle.rules.specs.OrphanList.{orphan_total}
 use Rattle.orphan_plan.proofs.PlanLaws.{tables_in, total_none, total_more}
 use Rattle.orphan_plan.proofs.orphan_total.Goals as goal
 

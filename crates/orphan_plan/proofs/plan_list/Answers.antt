@@ -1,5 +1,4 @@
 use mathlib.Core.Path.{sym, ◌∙◌}
-use borrow.Author.Rules.{rules}
 use Rattle.bridge.proofs.QuestionLaws.{passes_sound}
 use Rattle.orphan_plan.proofs.PlanLaws.{refused_area}
 use Rattle.orphan_plan.proofs.plan_list.Goals as goal

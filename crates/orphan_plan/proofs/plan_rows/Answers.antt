@@ -1,4 +1,3 @@
-use borrow.Author.Rules.{rules}
 use Rattle.orphan_plan.proofs.PlanLaws.{too_short, planned}
 use Rattle.orphan_plan.proofs.plan_rows.Goals as goal
 

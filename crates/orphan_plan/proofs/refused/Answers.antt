@@ -1,5 +1,4 @@
 use mathlib.Core.Path.{ap, ◌∙◌}
-use borrow.Author.Rules.{rules}
 use lib.IntN.{ℤ}
 use Rattle.words.proofs.Signed.{back}
 use Rattle.rules.specs.declared.Listed.{Listed}
