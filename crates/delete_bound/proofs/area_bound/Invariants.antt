@@ -1,11 +1,8 @@
-use mathlib.Core.Path.{◌≡◌, ◌∙◌}
+use mathlib.Core.Path.{◌≡◌}
 use Prim.Native.Nat.{◌+◌, ◌*◌, ◌-◌, ◌≤◌}
-use native.Mathlib.Nat.{zero-add}
-use native.Mathlib.Omega.{arith}
-use borrow.Author.Rules.{rules}
 use Rattle.schema.specs.Fields.{schema_of}
 use Rattle.rules.specs.DeleteBound.{area_bound}
-use Rattle.delete_bound.proofs.TableBounds.{tables_left, all_left, tables_none, tables_more}
+use Rattle.delete_bound.proofs.TableBounds.{tables_left}
 use Rattle.delete_bound.proofs.area_bound.Given as goal
 
 abbrev pub invariant-loop-t : goal.invariant-loop-t

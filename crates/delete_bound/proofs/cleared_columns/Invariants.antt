@@ -1,13 +1,6 @@
-use mathlib.Core.Path.{◌≡◌}
-use Prim.Native.Nat.{ℕ, ◌-◌, ◌^◌, ◌≤◌}
-use native.Mathlib.Nat.{lt_of_lt_of_le}
-use native.Mathlib.Omega.{arith}
-use borrow.Author.Rules.{rules}
-use lib.Pow.{pow_mono}
+use Prim.Native.Nat.{ℕ, ◌-◌, ◌≤◌}
 use Rattle.schema.specs.Marks.{Marks}
-use Rattle.schema.specs.Records.{table_of}
 use Rattle.schema.specs.Fields.{schema_of}
-use Rattle.schema.proofs.MaskLaws.{marks_start, marks_more}
 use Rattle.rules.specs.Lists.{any}
 use Rattle.rules.specs.DeleteBound.{clears}
 use Rattle.delete_bound.proofs.cleared_columns.Given as goal

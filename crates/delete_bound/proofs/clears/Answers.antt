@@ -1,6 +1,4 @@
 use mathlib.Core.Path.{sym, ap, ◌∙◌}
-use borrow.Author.Rules.{rules}
-use borrow.Author.Tests.{not-true, not-false}
 use Rattle.rules.specs.DeleteBound.{is_set_null}
 use Rattle.delete_bound.proofs.ClearLaws.{other_action, other_table, own_column}
 use Rattle.delete_bound.proofs.clears.Goals as goal

@@ -1,5 +1,4 @@
 use mathlib.Core.Path.{sym, ◌∙◌}
-use borrow.Author.Rules.{rules}
 use Rattle.words.proofs.Signed.{back}
 use Rattle.bridge.proofs.QuestionLaws.{passes_sound}
 use Rattle.delete_bound.proofs.TableBounds.{bound_refused, bound_passed}

@@ -1,9 +1,7 @@
-use mathlib.Core.Path.{◌≡◌, refl, sym, ◌∙◌}
-use Prim.Native.Nat.{◌-◌, ◌≤◌}
+use mathlib.Core.Path.{refl, sym, ◌∙◌}
+use Prim.Native.Nat.{◌≤◌}
 use borrow.Author.Rules.{rules}
-use lib.Dec.{eqb}
-use lib.ListN.{length, take, drop}
-use Rattle.rules.specs.Lists.{any}
+use lib.ListN.{length}
 use Rattle.delete_bound.proofs.ClearLaws.{column_none, column_hit, column_miss}
 use Rattle.delete_bound.proofs.has_column.Goals as goal
 

@@ -1,10 +1,8 @@
-use mathlib.Core.Path.{◌≡◌, refl, sym, ◌∙◌}
+use mathlib.Core.Path.{◌≡◌}
 use Prim.Native.Nat.{◌-◌, ◌≤◌}
-use borrow.Author.Rules.{rules}
 use lib.Dec.{eqb}
-use lib.ListN.{length, take, drop}
+use lib.ListN.{take, drop}
 use Rattle.rules.specs.Lists.{any}
-use Rattle.delete_bound.proofs.ClearLaws.{column_none, column_hit, column_miss}
 use Rattle.delete_bound.proofs.has_column.Given as goal
 
 abbrev pub invariant-loop-i : goal.invariant-loop-i

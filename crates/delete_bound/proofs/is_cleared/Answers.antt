@@ -1,12 +1,7 @@
-use mathlib.Core.Path.{◌≡◌, refl, sym, ◌∙◌}
-use Prim.Native.Nat.{◌-◌, ◌≤◌}
+use mathlib.Core.Path.{refl, sym, ◌∙◌}
 use native.Mathlib.Omega.{arith}
 use borrow.Author.Rules.{rules}
-use lib.ListN.{length, drop}
 use Rattle.schema.specs.Records.{no_key}
-use Rattle.schema.specs.Fields.{schema_of}
-use Rattle.rules.specs.Lists.{any}
-use Rattle.rules.specs.DeleteBound.{clears}
 use Rattle.bridge.proofs.LoopLaws.{any_none, any_hit, any_miss}
 use Rattle.delete_bound.proofs.is_cleared.Goals as goal
 

@@ -1,13 +1,9 @@
-use mathlib.Core.Path.{◌≡◌, refl, sym, ◌∙◌}
+use mathlib.Core.Path.{◌≡◌}
 use Prim.Native.Nat.{◌-◌, ◌≤◌}
-use native.Mathlib.Omega.{arith}
-use borrow.Author.Rules.{rules}
 use lib.ListN.{length, drop}
-use Rattle.schema.specs.Records.{no_key}
 use Rattle.schema.specs.Fields.{schema_of}
 use Rattle.rules.specs.Lists.{any}
 use Rattle.rules.specs.DeleteBound.{clears}
-use Rattle.bridge.proofs.LoopLaws.{any_none, any_hit, any_miss}
 use Rattle.delete_bound.proofs.is_cleared.Given as goal
 
 abbrev pub invariant-loop-k : goal.invariant-loop-k

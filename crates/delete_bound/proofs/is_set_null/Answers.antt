@@ -1,5 +1,4 @@
 use mathlib.Core.Path.{refl}
-use borrow.Author.Rules.{rules}
 use Rattle.rules.specs.DeleteBound.{is_set_null}
 use Rattle.delete_bound.proofs.is_set_null.Goals as goal
 

@@ -1,7 +1,5 @@
 use mathlib.Core.Path.{sym, ◌∙◌}
 use native.Mathlib.Omega.{arith}
-use borrow.Author.Rules.{rules}
-use borrow.Author.Tests.{not-true, not-false}
 use lib.Bits.{and_le_l}
 use Rattle.delete_bound.proofs.RowBounds.{vacant_bound, live_bound, ones_few}
 use Rattle.delete_bound.proofs.row_bound.Goals as goal

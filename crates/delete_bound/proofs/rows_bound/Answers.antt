@@ -1,10 +1,8 @@
-use mathlib.Core.Path.{◌≡◌}
-use Prim.Native.Nat.{◌+◌, ◌*◌, ◌-◌, ◌≤◌}
 use native.Mathlib.Nat.{zero-add}
 use native.Mathlib.Omega.{arith}
 use borrow.Author.Rules.{rules}
 use Rattle.rows.proofs.TableLaws.{standing}
-use Rattle.delete_bound.proofs.TableBounds.{rows_left, left_none, left_more, row_here}
+use Rattle.delete_bound.proofs.TableBounds.{left_none, left_more, row_here}
 use Rattle.delete_bound.proofs.rows_bound.Goals as goal
 
 pub loop-j-init : goal.loop-j-init
