@@ -39,14 +39,10 @@ returns-in-Restrict c =
     let on = sym (fires_is (goal.at.returns-in-Restrict c).After-key_changes) ∙ c.if-not-key_changes.false in
     turn_restrict _ _ c.requires.0 _ c.args.t c.args.old c.args.new on (sym c.action_of.ensures ∙ c.in-Restrict.is) c.restrict.ensures
 
--- the tag of RESTRICT is 1
-not_restrict : {x : ℕ} → x ≡ 1 → (x ≡ 0) ⊎ ((x ≡ 2) ⊎ ((x ≡ 3) ⊎ (x ≡ 4))) → ⊥
-not_restrict e = ⊎_elim (λ q. omega (arith, e, q)) (⊎_elim (λ q. omega (arith, e, q)) (⊎_elim (λ q. omega (arith, e, q)) (λ q. omega (arith, e, q))))
-
 pub returns-in_default : goal.returns-in_default
 returns-in_default c =
     let on = sym (fires_is (goal.at.returns-in_default c).After-key_changes) ∙ c.if-not-key_changes.false in
     ⊎_elim
     (λ e. turn_none _ _ c.requires.0 _ c.args.t c.args.old c.args.new on e)
-    (λ e. absurd (not_restrict (ap (tag_of the_type) (c.action_of.ensures ∙ e)) c.in-Restrict.keys2))
+    (λ e. absurd (c.in_default.not-Restrict (c.action_of.ensures ∙ e)))
     (window_action _ c.requires.0.accepted _ c.requires.1.whole_key.key c.requires.1.windowed c.args.new)
