@@ -23,7 +23,7 @@ use schema::Action;
 use table_keys::TableKeys;
 
 // Changes row r of table t to an image, with its actions.
-#[cycle(key_turn_key_walk_row_change_row_turn_row_walk)]
+#[cycle(row_changes)]
 pub fn row_change(
     schema: &[u8],
     area: &mut [i64],
@@ -50,7 +50,7 @@ pub fn row_change(
 }
 
 // The actions of all foreign keys, by number. `keys` has those that touch the table.
-#[cycle(key_turn_key_walk_row_change_row_turn_row_walk)]
+#[cycle(row_changes)]
 fn key_walk(
     schema: &[u8],
     area: &mut [i64],
@@ -79,7 +79,7 @@ fn key_walk(
 }
 
 // The actions of foreign key k, if they follow.
-#[cycle(key_turn_key_walk_row_change_row_turn_row_walk)]
+#[cycle(row_changes)]
 fn key_turn(
     schema: &[u8],
     area: &mut [i64],
@@ -112,7 +112,7 @@ fn key_turn(
 
 // The action of foreign key k on its child rows, by rising number. Of the old row it knows the values that were fetched; a row
 // that has them does not map to the new one.
-#[cycle(key_turn_key_walk_row_change_row_turn_row_walk)]
+#[cycle(row_changes)]
 fn row_walk(
     schema: &[u8],
     area: &mut [i64],
@@ -146,7 +146,7 @@ fn row_walk(
 }
 
 // The action of foreign key k on row j of its child rows, which is taken: it does not map to the new parent row.
-#[cycle(key_turn_key_walk_row_change_row_turn_row_walk)]
+#[cycle(row_changes)]
 fn row_turn(
     schema: &[u8],
     area: &mut [i64],

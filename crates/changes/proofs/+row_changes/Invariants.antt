@@ -1,0 +1,53 @@
+use mathlib.Core.Path.{◌≡◌, refl, sym, ap₂, ◌∙◌}
+use mathlib.Core.List.{List}
+use Prim.Native.Nat.{◌+◌, ◌-◌, ◌*◌, ◌≤◌, ℕ, ◌<◌}
+use native.Mathlib.Omega.{arith}
+use borrow.Author.Rules.{rules}
+use lib.IntN.{ℤ}
+use lib.ListN.{length, drop}
+use Rattle.schema.specs.Fields.{schema_of}
+use Rattle.schema.specs.Records.{table_of, key_of}
+use Rattle.schema.proofs.SchemaLaws.{accepted_valid}
+use Rattle.schema.proofs.FieldLaws.{read_windows, same_width}
+use Rattle.rules.specs.Lists.{up_from}
+use Rattle.rules.specs.Rows.{image}
+use Rattle.rules.specs.Book.{Work}
+use Rattle.rules.specs.Change.{actions, change}
+use Rattle.rules.specs.KeyValues.{children_by_values}
+use Rattle.bridge.specs.Fit.{work_of}
+use Rattle.table_keys.proofs.TouchLaws.{is_whole, in_whole, not_whole, in_windowed, not_windowed}
+use Rattle.moves.specs.Tally.{Follows}
+use Rattle.moves.proofs.TallyLaws.{follows_refl, follows_trans, tallied_after}
+use Rattle.rows.specs.KeyColumns.{PlainKey}
+use Rattle.rows.specs.Sought.{sought_values}
+use Rattle.change_parts.proofs.FollowerLaws.{rows_many, search_ready, found_first, table_there}
+use Rattle.change_parts.proofs.WindowTurns.{not_parent, old_full}
+use Rattle.changes.proofs.CycleLaws as law
+use Rattle.changes.proofs.+row_changes.Given as goal
+
+abbrev pub decreases-key_turn : goal.decreases-key_turn
+decreases-key_turn l = 5 * l.left + 3
+
+abbrev pub decreases-key_walk : goal.decreases-key_walk
+decreases-key_walk l = 5 * l.left + 4
+
+abbrev pub decreases-row_change : goal.decreases-row_change
+decreases-row_change l = 5 * l.left
+
+abbrev pub decreases-row_turn : goal.decreases-row_turn
+decreases-row_turn l = 5 * l.left + 1
+
+abbrev pub decreases-row_walk : goal.decreases-row_walk
+decreases-row_walk l = 5 * l.left + 2
+
+abbrev pub invariant-key_walk-loop-k : goal.invariant-key_walk-loop-k
+invariant-key_walk-loop-k l = (l.k ≤ l.n) × ((length l.area ≡ length l.initial.area) × (Follows (schema_of l.schema) l.initial.tally l.initial.area l.tally l.area × (actions (change l.left (schema_of l.schema)) (schema_of l.schema) l.new l.t l.old (schema_of l.schema).keys (work_of (schema_of l.schema) l.initial.area) ≡ actions (change l.left (schema_of l.schema)) (schema_of l.schema) l.new l.t l.old (drop l.k (schema_of l.schema).keys) (work_of (schema_of l.schema) l.area))))
+
+abbrev pub decreases-key_walk-loop-k : goal.decreases-key_walk-loop-k
+decreases-key_walk-loop-k l = l.n - l.k
+
+abbrev pub invariant-row_walk-loop-j : goal.invariant-row_walk-loop-j
+invariant-row_walk-loop-j l = (l.j ≤ l.n) × ((length l.area ≡ length l.initial.area) × (Follows (schema_of l.schema) l.initial.tally l.initial.area l.tally l.area × (children_by_values (change l.left (schema_of l.schema)) (schema_of l.schema) l.new (key_of (schema_of l.schema) l.k) (sought_values l.f.key) (up_from 0 (table_of (schema_of l.schema) (key_of (schema_of l.schema) l.k).child).rows) (work_of (schema_of l.schema) l.initial.area) ≡ children_by_values (change l.left (schema_of l.schema)) (schema_of l.schema) l.new (key_of (schema_of l.schema) l.k) (sought_values l.f.key) (up_from l.j (l.n - l.j)) (work_of (schema_of l.schema) l.area))))
+
+abbrev pub decreases-row_walk-loop-j : goal.decreases-row_walk-loop-j
+decreases-row_walk-loop-j l = l.n - l.j
