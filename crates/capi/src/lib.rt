@@ -1,4 +1,4 @@
-// The engine's functions for C. A slice is a pointer and a length.
+// The engine's functions as C sees them: numbers and structs of numbers. `capi_c` exports each under its own name.
 
 #![tactic(auto)]
 
@@ -29,24 +29,21 @@ fn signed(x: u8) -> i64
 }
 
 // The number of what the check of schema bytes finds: 0 or 1.
-#[unsafe(no_mangle)]
-pub extern "C" fn hoofbook_check_schema(bytes: &[u8]) -> i64
+pub fn hoofbook_check_schema(bytes: &[u8]) -> i64
     ensures { result ≡ pos (Check.number_of (Check.check_schema bytes.now)) }
 {
     signed(schema_check::number(schema_check::check_schema(bytes)))
 }
 
 // The length of an area for a schema; 0 where the schema is refused.
-#[unsafe(no_mangle)]
-pub extern "C" fn hoofbook_area_words(schema: &[u8]) -> i64
+pub fn hoofbook_area_words(schema: &[u8]) -> i64
     ensures { result ≡ pos (area_words schema.now) }
 {
     words::word_of(fresh_area::area_words(schema))
 }
 
 // Makes an area fresh; answers the code.
-#[unsafe(no_mangle)]
-pub extern "C" fn hoofbook_make_fresh(schema: &[u8], area: &mut [i64]) -> i64
+pub fn hoofbook_make_fresh(schema: &[u8], area: &mut [i64]) -> i64
     ensures { (result, area.new) ≡ fresh_code schema.now area.old }
 {
     let answer = fresh_area::make_fresh(schema, area);
@@ -54,8 +51,7 @@ pub extern "C" fn hoofbook_make_fresh(schema: &[u8], area: &mut [i64]) -> i64
 }
 
 // Carries out a call, or refuses it.
-#[unsafe(no_mangle)]
-pub extern "C" fn hoofbook_call(schema: &[u8], area: &mut [i64], call: &[i64]) -> CallAnswer
+pub fn hoofbook_call(schema: &[u8], area: &mut [i64], call: &[i64]) -> CallAnswer
     ensures { (result.code ∷ result.changed ∷ result.net ∷ [], area.new) ≡ call_words schema.now call.now area.old }
 {
     let answer = engine::call_words(schema, area, call);
@@ -67,8 +63,7 @@ pub extern "C" fn hoofbook_call(schema: &[u8], area: &mut [i64], call: &[i64]) -
 }
 
 // Lists all orphans, by foreign key and then by row, or refuses by 1, 3, 10 or 22 with nothing written: the one function that writes records into a lent slice of structs.
-#[unsafe(no_mangle)]
-pub extern "C" fn hoofbook_list_orphans(schema: &[u8], area: &[i64], list: &mut [Orphan]) -> Listed
+pub fn hoofbook_list_orphans(schema: &[u8], area: &[i64], list: &mut [Orphan]) -> Listed
     ensures { (result, list.new) ≡ list_orphans schema.now area.now list.old }
 {
     let mut plan = orphan_plan::plan_list(schema, area, list.len());
@@ -82,8 +77,7 @@ pub extern "C" fn hoofbook_list_orphans(schema: &[u8], area: &[i64], list: &mut 
 }
 
 // Answers how much one delete can touch, or refuses by 1, 3 or 10.
-#[unsafe(no_mangle)]
-pub extern "C" fn hoofbook_delete_bound(schema: &[u8], area: &[i64]) -> Numbered
+pub fn hoofbook_delete_bound(schema: &[u8], area: &[i64]) -> Numbered
     ensures { result ≡ bound_answer schema.now area.now }
 {
     delete_bound::delete_bound(schema, area)
