@@ -4,13 +4,13 @@
 #        bench/run.sh lists        the orphan lists alone
 #        bench/run.sh bounds       the bounds of a delete alone
 #        bench/run.sh scans        rows gone through, with plain and with folded columns, alone
-# hoofrun is the one that $HOOFRUN names, or target/bin/hoofrun; the library that answers questions is the
-# one that $CAPI names, or target/staticlib/libcapi.a.
+# hoofrun is the one that $HOOFRUN names, or crates/hoofrun/out/hoofrun; the library that answers
+# questions is the one that $CAPI names, or target/staticlib/libcapi.a.
 set -euo pipefail
 cd "$(dirname "$0")/.."
 
 calls=${1:-10000}
-hoofrun=${HOOFRUN:-target/bin/hoofrun}
+hoofrun=${HOOFRUN:-crates/hoofrun/out/hoofrun}
 capi=${CAPI:-target/staticlib/libcapi.a}
 folder=target/bench
 
@@ -19,11 +19,11 @@ if [ $# -gt 1 ] || ! [[ $calls =~ ^([1-9][0-9]*|lists|bounds|scans)$ ]]; then
     exit 2
 fi
 if ! [[ $calls =~ ^(lists|bounds)$ ]] && ! [ -x "$hoofrun" ]; then
-    echo "bench/run.sh: $hoofrun is not there: 'rt check hoofrun' builds it" >&2
+    echo "bench/run.sh: $hoofrun is not there: './run-example.sh' builds it" >&2
     exit 1
 fi
 if ! [ -e "$capi" ]; then
-    echo "bench/run.sh: $capi is not there: 'rt staticlib capi' builds it" >&2
+    echo "bench/run.sh: $capi is not there: 'tools/library.sh' builds it" >&2
     exit 1
 fi
 if ! command -v gcc >/dev/null || ! [ -e /usr/include/sqlite3.h ]; then

@@ -1,5 +1,5 @@
 #!/usr/bin/env bash
-# Builds the example against the header and the library, as C and as C++, runs it, and compares what it prints. Needs `rt staticlib capi`.
+# Builds the example against the header and the library, as C and as C++, runs it, and compares what it prints. Needs `tools/library.sh`.
 set -uo pipefail
 cd "$(dirname "$0")/.." || exit 1
 
@@ -20,7 +20,7 @@ try_kit() {
     must diff examples/kit.expected <("$program")
 }
 
-[ -f "$library" ] || { echo "test_kit.sh: $library is missing: run 'rt staticlib capi'" >&2; }
+[ -f "$library" ] || { echo "test_kit.sh: $library is missing: run 'tools/library.sh'" >&2; }
 try_kit target/kit gcc -std=c11
 try_kit target/kit_cpp g++ -std=c++17 # g++ takes a .c file for C++
 

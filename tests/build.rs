@@ -1,4 +1,4 @@
-//! Links the engine: the archive that `rt staticlib capi` writes.
+//! Links the engine: the archive that `tools/library.sh` writes.
 
 use std::path::Path;
 

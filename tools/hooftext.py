@@ -17,7 +17,7 @@ usage: hooftext.py encode TEXT BYTES   turns a text of tables, keys and calls in
        hooftext.py run TEXT            runs hoofrun on a text, prints the answers beside the calls;
                                        asks hoofask the questions that stand between them
        hooftext.py orphans TEXT        asks hoofask which orphans a text leaves, prints them by name
-- is standard input or output. hoofrun is the one that $HOOFRUN names, or target/bin/hoofrun;
+- is standard input or output. hoofrun is the one that $HOOFRUN names, or crates/hoofrun/out/hoofrun;
 hoofask is the one that $HOOFASK names, or target/hoofask.
 """
 

@@ -5,7 +5,7 @@ import subprocess
 from dataclasses import dataclass
 from pathlib import Path
 
-TARGET = Path(__file__).resolve().parents[2] / "target"
+ROOT = Path(__file__).resolve().parents[2]
 
 
 class ProgramError(Exception):
@@ -43,8 +43,8 @@ class Program:
         return printed
 
 
-HOOFRUN = Program("hoofrun", TARGET / "bin" / "hoofrun", "rt check hoofrun")
-HOOFASK = Program("hoofask", TARGET / "hoofask", "tools/build.sh")
+HOOFRUN = Program("hoofrun", ROOT / "crates" / "hoofrun" / "out" / "hoofrun", "./run-example.sh")
+HOOFASK = Program("hoofask", ROOT / "target" / "hoofask", "tools/build.sh")
 
 
 def numbers_in(lines):

@@ -17,7 +17,7 @@ pub fn test_file(name: &str) -> PathBuf {
 
 /// Runs the program on an input. Gives what it prints.
 pub fn output(input: &[u8]) -> Result<String, String> {
-    let program = test_file("../target/bin/hoofrun");
+    let program = test_file("../crates/hoofrun/out/hoofrun");
     let file = std::env::temp_dir().join(format!("hoofrun-input-{}", std::process::id()));
     fs::write(&file, input).map_err(|why| format!("{}: {}", file.display(), why))?;
     let opened = File::open(&file).map_err(|why| format!("{}: {}", file.display(), why));
