@@ -13,4 +13,4 @@ returns c =
     let code = back (get_or call.result 0 (pos 0)) c.result-1.given in
     let changed = back (get_or call.result 1 (pos 0)) c.result-2-1.given in
     let net = back (get_or call.result 2 (pos 0)) c.result-3-1.given in
-    ap (λ ws. (ws, call.new.1.0)) (three call.result size code changed net) ∙ call.ensures
+    ap (λ ws. (ws, call.new.area)) (three call.result size code changed net) ∙ call.ensures

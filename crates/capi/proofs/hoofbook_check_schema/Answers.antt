@@ -3,12 +3,13 @@ use mathlib.Core.Path.{ap, ◌∙◌}
 use Prim.Native.Nat.{ℕ}
 use lib.IntN.{pos}
 use borrow.Author.Rules.{rules}
-use mir.Facts.{to_z-of_z}
+use mir.Syntax.{w64}
+use mir.ValLaws.{to_z-of_z}
 use Rattle.schema.specs.Check.{number_of}
 use Rattle.capi.proofs.hoofbook_check_schema.Goals as goal
 
 pub returns : goal.returns
 returns c =
-    to_z-of_z (record { sfits = c.signed.type_inv })
+    to_z-of_z w64 _ (record { sfits = c.signed.type_inv })
     ∙ c.signed.ensures
     ∙ ap (λ (n : ℕ). pos n) (c.number.ensures ∙ ap number_of c.check_schema.ensures)
