@@ -27,7 +27,7 @@ use Rattle.laws.specs.Reached.{Reached}
 use Rattle.laws.proofs.Reached.{reached_sound}
 use Rattle.laws.proofs.Changed.{changed_few}
 use Rattle.answers.specs.AnswerWords.{answer_words}
-use Rattle.rules.specs.Refusals.{shown, accepted}
+use Rattle.rules.specs.Refusals.{shown}
 use Rattle.rules.specs.declared.Answer.{Answer}
 use Rattle.call_form.specs.declared.Request.{Request}
 use Rattle.call_form.specs.declared.Request.TheVariants as request

@@ -1,6 +1,5 @@
 use Rattle.call_form.specs.Requests.{call_of}
 use Rattle.calls.proofs.CallLaws as law
-use borrow.Author.Rules.{rules}
 use Rattle.calls.proofs.carry_out.Goals as goal
 
 pub insert-requires : goal.insert-requires

@@ -1,6 +1,5 @@
 use Rattle.words.proofs.Signed.{back}
 use Rattle.calls.proofs.CallLaws as law
-use borrow.Author.Rules.{rules}
 use Rattle.calls.proofs.cell_of.Goals as goal
 
 pub returns : goal.returns

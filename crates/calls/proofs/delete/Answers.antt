@@ -1,8 +1,6 @@
 use mathlib.Core.List.{[]}
 use Rattle.rules.specs.Rows.{deleted_image}
 use mathlib.Core.Path.{refl}
-use borrow.Author.Tests.{not-true, not-false}
-use borrow.Author.Rules.{rules}
 use Rattle.calls.proofs.CallLaws as law
 use Rattle.calls.proofs.delete.Goals as goal
 

@@ -1,5 +1,4 @@
 use Rattle.calls.proofs.CallLaws as law
-use borrow.Author.Rules.{rules}
 use Rattle.calls.proofs.delete_where.Goals as goal
 
 pub change_found-requires : goal.change_found-requires

@@ -1,4 +1,3 @@
-use borrow.Author.Rules.{rules}
 use Rattle.calls.proofs.CallLaws as law
 use Rattle.calls.proofs.insert.Goals as goal
 

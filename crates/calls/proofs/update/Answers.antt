@@ -1,5 +1,3 @@
-use borrow.Author.Tests.{not-true, not-false}
-use borrow.Author.Rules.{rules}
 use Rattle.calls.proofs.CallLaws as law
 use Rattle.calls.proofs.update.Goals as goal
 

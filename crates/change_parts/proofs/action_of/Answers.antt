@@ -2,7 +2,6 @@ use mathlib.Core.Path.{sym, ◌∙◌}
 use Rattle.schema.specs.Fields.{schema_of}
 use Rattle.schema.specs.Records.{key_of}
 use Rattle.change_parts.proofs.PartLaws as law
-use borrow.Author.Rules.{rules}
 use Rattle.change_parts.proofs.action_of.Goals as goal
 
 pub returns-then-image_live : goal.returns-then-image_live

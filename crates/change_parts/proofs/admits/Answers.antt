@@ -1,9 +1,7 @@
 use mathlib.Core.Path.{sym, ◌∙◌}
-use borrow.Author.Tests.{not-true, not-false}
 use Rattle.schema.specs.Fields.{schema_of}
 use Rattle.bridge.specs.Fit.{work_of}
 use Rattle.change_parts.proofs.PartLaws as law
-use borrow.Author.Rules.{rules}
 use Rattle.change_parts.proofs.admits.Goals as goal
 
 pub returns-then-is_full : goal.returns-then-is_full

@@ -1,6 +1,5 @@
 use mathlib.Core.Path.{sym, ap, ◌∙◌}
 use native.Mathlib.Omega.{arith}
-use borrow.Author.Rules.{rules}
 use Rattle.schema.specs.Fields.{schema_of}
 use Rattle.schema.specs.Records.{key_of}
 use Rattle.rules.specs.Change.{child_image}

@@ -1,6 +1,5 @@
 use mathlib.Core.Path.{refl, ap}
 use mathlib.Core.Bool.{not}
-use borrow.Author.Rules.{rules}
 use Rattle.change_parts.specs.Turns.{deletes_child}
 use Rattle.change_parts.proofs.deletes_child.Goals as goal
 

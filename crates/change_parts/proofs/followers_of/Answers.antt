@@ -5,7 +5,6 @@ use Rattle.rules.specs.Keys.{full_key}
 use Rattle.bridge.proofs.MapLaws.{parent_plain}
 use Rattle.rows.proofs.TableLaws.{parent_wide}
 use Rattle.change_parts.proofs.FollowerLaws.{followers_are}
-use borrow.Author.Rules.{rules}
 use Rattle.change_parts.proofs.followers_of.Goals as goal
 
 pub sought_key-key-requires : goal.sought_key-key-requires

@@ -1,5 +1,4 @@
 use mathlib.Core.Path.{◌∙◌}
-use borrow.Author.Rules.{rules}
 use Rattle.schema.specs.Fields.{schema_of}
 use Rattle.bridge.specs.Fit.{work_of}
 use Rattle.change_parts.proofs.PartLaws as law

@@ -1,5 +1,4 @@
 use mathlib.Core.Path.{sym, ◌∙◌}
-use borrow.Author.Rules.{rules}
 use Rattle.change_parts.proofs.WindowTurns.{restrict_fail, restrict_pass}
 use Rattle.change_parts.proofs.restrict.Goals as goal
 

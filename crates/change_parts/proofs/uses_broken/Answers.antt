@@ -1,5 +1,4 @@
 use mathlib.Core.Path.{◌∙◌}
-use borrow.Author.Rules.{rules}
 use Rattle.change_parts.proofs.PartLaws as law
 use Rattle.change_parts.proofs.uses_broken.Goals as goal
 

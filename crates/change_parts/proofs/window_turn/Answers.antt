@@ -1,11 +1,5 @@
-use mathlib.Core.Path.{◌≡◌, sym, ap, ◌∙◌}
-use mathlib.Core.Logic.{◌⊎◌, ⊎_elim}
-use Prim.Native.Nat.{ℕ}
-use native.Mathlib.Omega.{arith}
-use borrow.Author.Rules.{rules}
-use borrow.Author.Tests.{not-true, not-false}
-use denote.Enum.Declared.{tag_of}
-use Rattle.schema.specs.contracts.Action.{the_type}
+use mathlib.Core.Path.{◌≡◌, sym, ◌∙◌}
+use mathlib.Core.Logic.{⊎_elim}
 use Rattle.schema.specs.Records.{key_of}
 use Rattle.schema.specs.Fields.{schema_of}
 use Rattle.rules.specs.Keys.{fires}

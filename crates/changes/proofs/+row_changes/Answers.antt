@@ -1,27 +1,24 @@
 use mathlib.Core.Path.{◌≡◌, refl, sym, ap, ap₂, ◌∙◌}
 use mathlib.Core.Bool.{Bool, true, false, not}
 use mathlib.Core.List.{List}
-use Prim.Native.Nat.{◌+◌, ◌-◌, ◌*◌, ◌≤◌, ℕ, ◌<◌}
+use Prim.Native.Nat.{◌-◌, ◌≤◌, ℕ, ◌<◌}
 use native.Mathlib.Omega.{arith}
 use borrow.Author.Rules.{rules}
 use lib.IntN.{ℤ}
-use lib.ListN.{length, drop}
+use lib.ListN.{length}
 use Rattle.schema.specs.Bytes.{bit}
 use Rattle.schema.specs.Fields.{schema_of}
-use Rattle.schema.specs.Records.{table_of, key_of}
+use Rattle.schema.specs.Records.{key_of}
 use Rattle.schema.proofs.SchemaLaws.{accepted_valid}
 use Rattle.schema.proofs.FieldLaws.{read_windows, same_width}
-use Rattle.rules.specs.Lists.{up_from}
 use Rattle.rules.specs.Rows.{image}
 use Rattle.rules.specs.Book.{Work}
 use Rattle.rules.specs.Change.{actions, change}
-use Rattle.rules.specs.KeyValues.{children_by_values}
 use Rattle.bridge.specs.Fit.{work_of}
 use Rattle.bridge.specs.Ready.{Ready}
 use Rattle.table_keys.specs.declared.TableKeys.{TableKeys}
 use Rattle.table_keys.specs.Touched.{KeysOf}
 use Rattle.table_keys.proofs.TouchLaws.{is_whole, in_whole, not_whole, in_windowed, not_windowed}
-use Rattle.moves.specs.Tally.{Follows}
 use Rattle.moves.proofs.TallyLaws.{follows_refl, follows_trans, tallied_after}
 use Rattle.rows.specs.KeyColumns.{PlainKey}
 use Rattle.rows.specs.Sought.{sought_values}

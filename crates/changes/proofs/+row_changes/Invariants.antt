@@ -1,28 +1,14 @@
-use mathlib.Core.Path.{◌≡◌, refl, sym, ap₂, ◌∙◌}
-use mathlib.Core.List.{List}
-use Prim.Native.Nat.{◌+◌, ◌-◌, ◌*◌, ◌≤◌, ℕ, ◌<◌}
-use native.Mathlib.Omega.{arith}
-use borrow.Author.Rules.{rules}
-use lib.IntN.{ℤ}
+use mathlib.Core.Path.{◌≡◌}
+use Prim.Native.Nat.{◌+◌, ◌-◌, ◌*◌, ◌≤◌}
 use lib.ListN.{length, drop}
 use Rattle.schema.specs.Fields.{schema_of}
 use Rattle.schema.specs.Records.{table_of, key_of}
-use Rattle.schema.proofs.SchemaLaws.{accepted_valid}
-use Rattle.schema.proofs.FieldLaws.{read_windows, same_width}
 use Rattle.rules.specs.Lists.{up_from}
-use Rattle.rules.specs.Rows.{image}
-use Rattle.rules.specs.Book.{Work}
 use Rattle.rules.specs.Change.{actions, change}
 use Rattle.rules.specs.KeyValues.{children_by_values}
 use Rattle.bridge.specs.Fit.{work_of}
-use Rattle.table_keys.proofs.TouchLaws.{is_whole, in_whole, not_whole, in_windowed, not_windowed}
 use Rattle.moves.specs.Tally.{Follows}
-use Rattle.moves.proofs.TallyLaws.{follows_refl, follows_trans, tallied_after}
-use Rattle.rows.specs.KeyColumns.{PlainKey}
 use Rattle.rows.specs.Sought.{sought_values}
-use Rattle.change_parts.proofs.FollowerLaws.{rows_many, search_ready, found_first, table_there}
-use Rattle.change_parts.proofs.WindowTurns.{not_parent, old_full}
-use Rattle.changes.proofs.CycleLaws as law
 use Rattle.changes.proofs.+row_changes.Given as goal
 
 abbrev pub decreases-key_turn : goal.decreases-key_turn

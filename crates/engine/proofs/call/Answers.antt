@@ -1,5 +1,4 @@
 use mathlib.Core.Path.{sym, ◌∙◌}
-use borrow.Author.Rules.{rules}
 use Rattle.engine.proofs.CallLaws as law
 use Rattle.engine.proofs.call.Goals as goal
 

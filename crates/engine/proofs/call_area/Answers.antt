@@ -1,7 +1,5 @@
 use mathlib.Core.Path.{sym, ◌∙◌}
 use mathlib.Core.Bool.{false≢true}
-use borrow.Author.Tests.{not-true, not-false}
-use borrow.Author.Rules.{rules}
 use Rattle.bridge.proofs.SoundLaws.{sound_area}
 use Rattle.schema.specs.Fields.{schema_of}
 use Rattle.engine.proofs.CallLaws as law

@@ -1,4 +1,3 @@
-use borrow.Author.Rules.{rules}
 use Rattle.engine.proofs.CallLaws.{answer_few, answer_is}
 use Rattle.engine.proofs.call_words.Goals as goal
 

@@ -1,5 +1,4 @@
 use mathlib.Core.Path.{refl}
-use borrow.Author.Rules.{rules}
 use Rattle.engine.specs.Calls.{is_refused}
 use Rattle.engine.proofs.is_refused.Goals as goal
 

@@ -1,7 +1,6 @@
 use mathlib.Core.Path.{sym, ◌∙◌}
 use Rattle.schema.specs.Fields.{schema_of}
 use Rattle.laws.proofs.Reached.{reached_sound, reached_clean}
-use borrow.Author.Rules.{rules}
 use Rattle.engine.proofs.CallLaws as law
 use Rattle.engine.proofs.next.Goals as goal
 

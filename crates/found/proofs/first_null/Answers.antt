@@ -1,10 +1,4 @@
-use mathlib.Core.Path.{◌≡◌}
-use mathlib.Core.Bool.{false}
-use mathlib.Core.List.{[]}
-use Prim.Native.Nat.{ℕ, ◌-◌, ◌<◌, ◌≤◌}
 use native.Mathlib.Omega.{arith}
-use lib.ListN.{get_or}
-use Rattle.rows.specs.Standing.{rows_in}
 use Rattle.rows.proofs.TableLaws.{row_at_lem}
 use Rattle.scans.proofs.FirstLaws.{tested, none_more, first_stop, first_none}
 use Rattle.found.specs.Sought.{has_null}

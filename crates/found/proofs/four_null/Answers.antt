@@ -2,7 +2,6 @@ use mathlib.Core.Path.{sym, ◌∙◌}
 use Rattle.bridge.proofs.Tests.{or_same}
 use Rattle.skips.proofs.SkipLaws.{four_is}
 use Rattle.found.specs.Sought.{null_in}
-use borrow.Author.Rules.{rules}
 use Rattle.found.proofs.four_null.Goals as goal
 
 pub returns : goal.returns

@@ -1,9 +1,7 @@
 use mathlib.Core.Path.{sym, ap, ◌∙◌}
-use borrow.Author.Tests.{not-true, not-false}
 use Rattle.rules.specs.Rows.{live_state}
 use Rattle.rows.proofs.CellLaws.{live_in}
 use Rattle.found.proofs.SoughtLaws.{filled_not_found, null_decides}
-use borrow.Author.Rules.{rules}
 use Rattle.found.proofs.has_null.Goals as goal
 
 pub returns-then-not-is_null : goal.returns-then-not-is_null

@@ -1,5 +1,4 @@
 use Rattle.found.proofs.SoughtLaws.{null_is}
-use borrow.Author.Rules.{rules}
 use Rattle.found.proofs.is_null.Goals as goal
 
 pub returns : goal.returns

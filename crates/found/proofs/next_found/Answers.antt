@@ -1,5 +1,4 @@
 use native.Mathlib.Omega.{arith}
-use borrow.Author.Rules.{rules}
 use Rattle.found.proofs.SoughtLaws.{found_by_lem}
 use Rattle.found.proofs.next_found.Goals as goal
 

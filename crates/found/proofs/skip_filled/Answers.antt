@@ -1,8 +1,5 @@
 use mathlib.Core.Path.{sym, ◌∙◌}
-use Prim.Native.Nat.{◌-◌}
 use native.Mathlib.Omega.{arith}
-use Rattle.rows.proofs.TableLaws.{rows_from}
-use Rattle.skips.specs.Skipped.{Skipped}
 use Rattle.skips.proofs.SkipLaws.{skip_start, skip_four, rows_fit}
 use Rattle.found.specs.Sought.{null_in}
 use Rattle.found.proofs.skip_filled.Goals as goal

@@ -1,5 +1,4 @@
 use mathlib.Core.Path.{ap₂, ◌∙◌}
-use borrow.Author.Rules.{rules}
 use Rattle.words.proofs.Signed.{back}
 use Rattle.rules.specs.Values.{folded}
 use Rattle.found.proofs.SoughtLaws.{key_made}

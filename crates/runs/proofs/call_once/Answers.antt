@@ -1,4 +1,3 @@
-use borrow.Author.Rules.{rules}
 use Rattle.runs.proofs.call_once.Goals as goal
 
 pub next_words-requires : goal.next_words-requires

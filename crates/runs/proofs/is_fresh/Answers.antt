@@ -1,6 +1,5 @@
 use mathlib.Core.Path.{sym, ◌∙◌}
 use mathlib.Core.Bool.{false≢true}
-use borrow.Author.Rules.{rules}
 use Rattle.runs.proofs.FreshLaws.{blank_reached}
 use Rattle.runs.proofs.is_fresh.Goals as goal
 

@@ -1,9 +1,8 @@
 use mathlib.Core.Path.{◌≡◌, refl, ◌∙◌, ap}
-use Prim.Native.Nat.{◌-◌, ◌≤◌, ◌<◌}
+use Prim.Native.Nat.{◌-◌, ◌<◌}
 use native.Mathlib.Omega.{arith}
 use borrow.Author.Rules.{rules}
 use lib.ListN.{length}
-use Rattle.runs.specs.Runs.{ReachedIf}
 use Rattle.runs.proofs.RunLaws.{reached_one, run_from, run_start, run_step, run_none, run_all_lem, calls_begin, calls_room}
 use Rattle.runs.proofs.run.Goals as goal
 

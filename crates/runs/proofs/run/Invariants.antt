@@ -1,10 +1,8 @@
-use mathlib.Core.Path.{◌≡◌, refl, ◌∙◌, ap}
-use Prim.Native.Nat.{◌-◌, ◌≤◌, ◌<◌}
-use native.Mathlib.Omega.{arith}
-use borrow.Author.Rules.{rules}
+use mathlib.Core.Path.{◌≡◌}
+use Prim.Native.Nat.{◌-◌, ◌≤◌}
 use lib.ListN.{length}
 use Rattle.runs.specs.Runs.{ReachedIf}
-use Rattle.runs.proofs.RunLaws.{reached_one, run_from, run_start, run_step, run_none, run_all_lem, calls_begin, calls_room}
+use Rattle.runs.proofs.RunLaws.{run_from}
 use Rattle.runs.proofs.run.Given as goal
 
 abbrev pub invariant-loop-i : goal.invariant-loop-i

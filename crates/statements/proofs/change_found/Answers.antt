@@ -6,7 +6,6 @@ use Rattle.found.proofs.SoughtLaws.{changes_sought}
 use Rattle.bridge.proofs.HoldLaws.{area_long}
 use Rattle.statements.proofs.TallyEnds.{tally_begins}
 use Rattle.statements.proofs.Ends as ends
-use borrow.Author.Rules.{rules}
 use Rattle.statements.proofs.change_found.Goals as goal
 
 pub nat_at-used-requires : goal.nat_at-used-requires

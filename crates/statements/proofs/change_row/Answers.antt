@@ -4,7 +4,6 @@ use Rattle.rules.specs.Change.{change}
 use Rattle.bridge.proofs.HoldLaws.{area_long}
 use Rattle.statements.proofs.TallyEnds.{tally_begins}
 use Rattle.statements.proofs.Ends as ends
-use borrow.Author.Rules.{rules}
 use Rattle.statements.proofs.change_row.Goals as goal
 
 pub nat_at-used-requires : goal.nat_at-used-requires

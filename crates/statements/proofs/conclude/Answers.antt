@@ -11,7 +11,6 @@ use Rattle.words.proofs.Signed.{back}
 use Rattle.sums.proofs.KeptSmall.{small_more}
 use Rattle.settlement.proofs.KeptLaws as kept
 use Rattle.statements.proofs.Ends as ends
-use borrow.Author.Rules.{rules}
 use Rattle.statements.proofs.conclude.Goals as goal
 
 pub nat_at-requires : goal.nat_at-requires

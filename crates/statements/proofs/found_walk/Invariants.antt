@@ -1,11 +1,4 @@
-use mathlib.Core.Path.{refl, sym, ◌∙◌}
-use Prim.Native.Nat.{◌-◌, ◌<◌}
-use native.Mathlib.Omega.{arith}
-use borrow.Author.Rules.{rules}
-use Rattle.schema.specs.Fields.{schema_of}
-use Rattle.moves.proofs.TallyLaws.{follows_refl, follows_trans, tallied_after}
-use Rattle.rows.proofs.TableLaws.{standing}
-use Rattle.found.proofs.SoughtLaws.{found_in_table}
+use Prim.Native.Nat.{◌-◌}
 use Rattle.statements.proofs.FoundLaws as law
 use Rattle.statements.proofs.found_walk.Given as goal
 

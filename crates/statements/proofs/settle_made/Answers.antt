@@ -1,5 +1,4 @@
 use Rattle.statements.proofs.StatementLaws as law
-use borrow.Author.Rules.{rules}
 use Rattle.statements.proofs.settle_made.Goals as goal
 
 pub returns-in-Fail : goal.returns-in-Fail
