@@ -1,6 +1,5 @@
 use mathlib.Core.Path.{◌∙◌, ap}
 use native.Mathlib.Omega.{arith}
-use borrow.Author.Rules.{rules}
 use Rattle.rules.specs.Engine.{call_on}
 use Rattle.call_lines.proofs.RunLaws.{call_whole, call_short}
 use Rattle.call_lines.proofs.call_at.Goals as goal

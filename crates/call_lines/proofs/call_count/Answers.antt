@@ -1,4 +1,3 @@
-use borrow.Author.Rules.{rules}
 use Rattle.call_lines.proofs.RunLaws.{count_even, count_odd}
 use Rattle.call_lines.proofs.call_count.Goals as goal
 

@@ -1,4 +1,3 @@
-use borrow.Author.Rules.{rules}
 use Rattle.call_lines.specs.Runs.{call_at, run_at}
 use Rattle.call_lines.proofs.RunLaws.{one_call}
 use Rattle.call_lines.proofs.run_call.Goals as goal

@@ -1,10 +1,9 @@
 use mathlib.Core.Path.{◌≡◌, refl, sym, ◌∙◌, ap}
-use Prim.Native.Nat.{◌+◌, ◌*◌, ◌-◌, ◌≤◌, ◌<◌}
+use Prim.Native.Nat.{◌-◌, ◌<◌}
 use native.Mathlib.Omega.{arith}
 use lib.ListN.{length}
 use borrow.Author.Rules.{rules}
-use Rattle.laws.specs.Reached.{Reached}
-use Rattle.call_lines.specs.Runs.{run_at, call_at, call_count, ran}
+use Rattle.call_lines.specs.Runs.{run_at, call_at, call_count}
 use Rattle.call_lines.proofs.RunLaws.{count_below, reached_ran, run_from, run_none, run_step, run_all_lem}
 use Rattle.call_lines.proofs.run_calls.Goals as goal
 

@@ -1,11 +1,9 @@
-use mathlib.Core.Path.{◌≡◌, refl, sym, ◌∙◌, ap}
-use Prim.Native.Nat.{◌+◌, ◌*◌, ◌-◌, ◌≤◌, ◌<◌}
-use native.Mathlib.Omega.{arith}
+use mathlib.Core.Path.{◌≡◌}
+use Prim.Native.Nat.{◌+◌, ◌*◌, ◌-◌, ◌≤◌}
 use lib.ListN.{length}
-use borrow.Author.Rules.{rules}
 use Rattle.laws.specs.Reached.{Reached}
-use Rattle.call_lines.specs.Runs.{run_at, call_at, call_count, ran}
-use Rattle.call_lines.proofs.RunLaws.{count_below, reached_ran, run_from, run_none, run_step, run_all_lem}
+use Rattle.call_lines.specs.Runs.{run_at, ran}
+use Rattle.call_lines.proofs.RunLaws.{run_from}
 use Rattle.call_lines.proofs.run_calls.Given as goal
 
 abbrev pub invariant-loop-i : goal.invariant-loop-i

@@ -1,5 +1,4 @@
 use mathlib.Core.Path.{◌∙◌, ap}
-use borrow.Author.Rules.{rules}
 use lib.IntN.{pos}
 use Rattle.words.proofs.Signed.{back}
 use Rattle.capi.proofs.hoofbook_area_words.Goals as goal

@@ -1,12 +1,10 @@
 -- `plan_list` is called once, before the loop; each turn calls `next_planned` and stores the orphan that it found.
-use Rattle.std.proofs.Common.{◌≡◌, ◌∷◌, List, ℕ, ◌+◌, ◌<◌, ◌≤◌, length, drop, sym, ap, ◌∙◌, subst, arith}
+use Rattle.std.proofs.Common.{◌≡◌, List, ℕ, ◌<◌, length, sym, ap, ◌∙◌, arith}
 use lib.ListN.{length-drop}
 use mathlib.Core.Path.{refl}
-use native.Mathlib.Nat.{le_antisymm}
 use lib.ListN.{set}
 use Rattle.rules.specs.declared.Orphan.{Orphan}
 use Rattle.rules.specs.declared.Listed.{Listed}
-use Rattle.orphan_scan.specs.Scan.{orphans_at, Unfinished}
 use Rattle.capi.proofs.ListLaws.{laid, laid_zero, laid_next, drop_next, all, count_low, list_left}
 use Rattle.capi.proofs.hoofbook_list_orphans.Goals as goal
 use Rattle.capi.proofs.hoofbook_list_orphans.Goals.{In-loop-i}
@@ -43,13 +41,12 @@ loop-i-preserved c =
     let same = c.next_planned-plan.ensures.0 in
     let low = some_left (goal.at.loop-i-preserved c).In-loop-i in
     let heads = stands.left ∙ next.heads in
-    let room : i < length c.args.list.now = omega (arith, c.plan_list-plan.ensures.fits, ap (λ (r : Listed). r.count) c.loop-i.invariant.0.1, c.loop-i-test.true) in
-    (
+    let room : i < length c.args.list.now = omega (arith, c.plan_list-plan.ensures.fits, ap (λ (r : Listed). r.count) c.loop-i.invariant.0.1, c.loop-i-test.true) in (
       (omega (arith, c.loop-i-test.true, ap (λ (r : Listed). r.count) same), same ∙ c.loop-i.invariant.0.1),
       (
         ap (λ (l : List Orphan). set l i c.next_planned-plan.result.at.orphan) c.loop-i.invariant.1.0 ∙ laid_next os c.args.list.now i low heads room,
-        λ l. record { ready = stands.ready; key_is = next.key_is; left = drop_next os c.args.list.now i low heads }
-      )
+        λ l. record { ready = stands.ready; key_is = next.key_is; left = drop_next os c.args.list.now i low heads },
+      ),
     )
 
 pub returns : goal.returns

@@ -1,6 +1,5 @@
 -- After i turns the first i orphans stand in the list, and the cursor before the others.
 use Rattle.std.proofs.Common.{◌≡◌, ◌-◌, ◌<◌, ◌≤◌, drop}
-use Rattle.rules.specs.OrphanList.{list_answer}
 use Rattle.orphan_plan.specs.Planned.{Stands}
 use Rattle.capi.proofs.ListLaws.{laid, all}
 use Rattle.capi.proofs.hoofbook_list_orphans.Given as goal

@@ -1,5 +1,4 @@
 use mathlib.Core.Path.{◌∙◌}
-use borrow.Author.Rules.{rules}
 use Rattle.words.proofs.Signed.{back}
 use Rattle.capi.proofs.ShownLaws.{fresh_code_lem}
 use Rattle.capi.proofs.hoofbook_make_fresh.Goals as goal

@@ -1,7 +1,6 @@
 -- `capi::signed` meets its contract: a byte is far below 2^63, so its bits are read as the number itself. Assumes nothing.
 use Prim.Native.Nat.{◌^◌}
 use native.Mathlib.Omega.{arith}
-use borrow.Author.Rules.{rules}
 use borrow.Author.Tests.{lt-ltb}
 use Rattle.capi.proofs.signed.Goals as goal
 

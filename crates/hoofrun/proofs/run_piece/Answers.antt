@@ -1,4 +1,4 @@
-use Rattle.std.proofs.Common.{◌≡◌, ◌∙◌, ap, sym, refl, ℕ, ◌-◌, List, ℤ, OnErr, Result, Ok, Err, length, take, length-take, arith}
+use Rattle.std.proofs.Common.{◌≡◌, ◌∙◌, ap, refl, ℕ, ◌-◌, List, ℤ, OnErr, Result, Ok, Err, length, take, length-take, arith}
 use Rattle.schema.specs.Ranges.{list_from}
 use Rattle.rules.specs.Step.{run_all}
 use Rattle.run_tally.specs.declared.Tally.{Tally}

@@ -1,5 +1,4 @@
 use mathlib.Core.Path.{refl, ◌∙◌, ap}
-use borrow.Author.Rules.{rules}
 use Rattle.rules.specs.Values.{nat_of}
 use Rattle.rules.specs.Refusals.{shown}
 use Rattle.words.proofs.Signed.{back}
