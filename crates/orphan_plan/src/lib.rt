@@ -56,7 +56,8 @@ fn plan_rows(schema: &[u8], area: &[i64], room: usize) -> Plan
     ensures { Planned schema.now area.now room result }
 {
     let total = orphan_total(schema, area);
-    if room < total {
+    let is_short = room < total;
+    if is_short {
         return refused(Refusal::ListTooShort);
     }
     let at = orphan_scan::start(schema);
