@@ -46,7 +46,8 @@ fn read_full(reader: &mut impl Read, bytes: &mut [u8]) -> io::Result<usize>
 // Reads the schema: as many bytes as its whole-length field says, or all there are if fewer.
 fn read_schema(reader: &mut impl Read, bytes: &mut [u8]) -> io::Result<usize>
     requires { 65536 ≤ length bytes.old }
-    ensures { IfOk result (λ n. n ≤ length bytes.old) }
+    ensures ok { IfOk result (λ n. n ≤ length bytes.old) }
+    ensures err { OnErr result (length bytes.new ≡ length bytes.old) }
 {
     let header = read_full(reader, &mut bytes[0..16])?;
     if header < 16 {
