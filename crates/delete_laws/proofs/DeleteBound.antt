@@ -36,7 +36,7 @@ use Rattle.rules.specs.Step.{act, step}
 use Rattle.rules.specs.Area.{AreaTurn, words, view, legible, ensure, area_step}
 use Rattle.rules.specs.Engine.{under_schema, call_on}
 use Rattle.rules.specs.Questions.{area_verdict, number_answer}
-use Rattle.rules.specs.DeleteBound.{delete_bound, bounded, Deletes, one_row, rows_found_lem, area_bound, free_records, WithinBound, BoundsDeletes, bound_answer}
+use Rattle.rules.specs.DeleteBound.{delete_bound, bounded, Deletes, one_row, found_rows, area_bound, free_records, WithinBound, BoundsDeletes, bound_answer}
 use Rattle.bridge.proofs.Tests.{and_both, holds}
 use Rattle.bridge.proofs.SoundLaws.{sound_area}
 use Rattle.bridge.proofs.QuestionLaws.{sound_passes}
@@ -96,7 +96,7 @@ module _ (s : Schema) (b : Book) where
     unfolding act row_statement number is_found
     in_act (delete t r) one_row =
         in_check _ _ _ RowState (omega arith) _ b (λ h. in_statement (change 16 s t r deleted_image) (ends_delete shapes bound 16 t r b.work h))
-    in_act (delete_where t c m v) rows_found_lem =
+    in_act (delete_where t c m v) found_rows =
         in_statement (rows_found s t (is_found (table_of s t).folded c (seeks_null m) v) (λ x. deleted_image))
         (ends_found shapes bound t (is_found (table_of s t).folded c (seeks_null m) v) (λ x e. and_left (live x) _ e) b.work)
     in_act malformed d = elim d [ ]

@@ -106,11 +106,11 @@ unfoldable places : List ℤ → List ℤ
 unfolding chunks
 places ws = map (λ r. get_or r 0 𝟘) (chunks 10 5 ws)
 
-records-exchanged :
+records_exchanged :
     map (λ (t : AreaTurn). places (used_words (schema_of yards) t.1)) (both yards reached_area call_c call_d ∷ swapped yards reached_area call_c call_d ∷ [])
     ≡ (pos 0 ∷ pos 1024 ∷ pos 2048 ∷ pos 3072 ∷ pos 4096 ∷ []) ∷ (pos 3072 ∷ pos 4096 ∷ pos 0 ∷ pos 1024 ∷ pos 2048 ∷ []) ∷ []
 unfolding on_area ran reached_area yards before call_c call_d places
-records-exchanged = refl
+records_exchanged = refl
 
 -- calls that follow both, and whether the areas of both orders are then the same in every word
 unfoldable follows : List (List (List ℤ))
@@ -151,25 +151,25 @@ yards_either = either_order yards reached_area call_c call_d yards_taken
 -- ---- the conditions are needed
 
 -- one family: the visit's horse must be there (20)
-one-family :
+one_family :
     map (answers on_book yards)
     ((begin ∷ insert 0 0 0 (pos 5 ∷ []) ∷ insert 1 0 0 (pos 1 ∷ pos 5 ∷ []) ∷ [])
     ∷ (begin ∷ insert 1 0 0 (pos 1 ∷ pos 5 ∷ []) ∷ insert 0 0 0 (pos 5 ∷ []) ∷ [])
     ∷ [])
     ≡ (rows 0 ∷ rows 1 ∷ rows 1 ∷ []) ∷ (rows 0 ∷ (20, 0, pos 0) ∷ rows 1 ∷ []) ∷ []
 unfolding on_book answers yards begin insert
-one-family = refl
+one_family = refl
 
 -- tables that are joined through another: a trim is moved to no visit, and stays when the horse goes, or goes with it and is not found
 unfoldable moved_trim : List ℤ
 unfolding update_where
 moved_trim = update_where 2 0 2 (pos 1) 0 (pos 0)
 
-through-another :
+through_another :
     map (answers on_book yards) ((before ++ (moved_trim ∷ call_c ∷ [])) ∷ (before ++ (call_c ∷ moved_trim ∷ [])) ∷ [])
     ≡ (started ++ (rows 1 ∷ rows 2 ∷ [])) ∷ (started ++ (rows 3 ∷ rows 0 ∷ [])) ∷ []
 unfolding on_book answers yards before call_c moved_trim
-through-another = refl
+through_another = refl
 
 -- so the claim does not hold of them
 through_no_claim : ¬ (EitherOrder yards reached_area moved_trim call_c)

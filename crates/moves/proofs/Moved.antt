@@ -111,10 +111,10 @@ module _ (k : ForeignKey) (t r : ℕ) (y : Row) (tabs : Tables) (h : r < length 
       rw (ea, eb, rows_other k.child t r y tabs (other k.child t ea), rows_other k.parent t r y tabs (other k.parent t eb)) refl
 
   -- the orphans after, and those mended, are the orphans before, and those made
-  pub moved-counted :
+  pub moved_counted :
       orphans (put_row t r y tabs) k + (stranded_rows k t r y (row_at t r tabs) tabs + own_orphan k t (row_at t r tabs) tabs)
       ≡ orphans tabs k + (stranded_rows k t r (row_at t r tabs) y tabs + own_orphan k t y (put_row t r y tabs))
-  moved-counted = cases (eqb k.child t) (eqb k.parent t) refl refl
+  moved_counted = cases (eqb k.child t) (eqb k.parent t) refl refl
 
 -- signed: before and the move is after
 signed : (a b g m : ℕ) → a + m ≡ b + g → pos b +ℤ (pos g -ℤ pos m) ≡ pos a
@@ -125,7 +125,7 @@ signed a b g m e =
 pub moved_is : (k : ForeignKey) (t r : ℕ) (y : Row) (tabs : Tables) → r < length (get_or tabs t [])
     → pos (orphans tabs k) +ℤ movement k t r (row_at t r tabs) y tabs (put_row t r y tabs) ≡ pos (orphans (put_row t r y tabs) k)
 unfolding movement
-moved_is k t r y tabs h = signed _ _ _ _ (moved-counted k t r y tabs h)
+moved_is k t r y tabs h = signed _ _ _ _ (moved_counted k t r y tabs h)
 
 -- what turning x into y frees may be counted before or after the write
 rest_after : (a t r : ℕ) (z : Row) (tabs : Tables) (b : Bool) → eqb a t ≡ b → except_if b r (get_or (put_row t r z tabs) a []) ≡ except_if b r (get_or tabs a [])
@@ -191,7 +191,7 @@ module _ (k : ForeignKey) (x y : Row) (needs : due k x ≡ due k y) (asks : (p :
   pub unmoved : (t r : ℕ) (tabs : Tables) → r < length (get_or tabs t []) → x ≡ row_at t r tabs → orphans (put_row t r y tabs) k ≡ orphans tabs k
   unmoved t r tabs h e =
       let m : orphans (put_row t r y tabs) k + (stranded_rows k t r y x tabs + own_orphan k t x tabs) ≡ orphans tabs k + (stranded_rows k t r x y tabs + own_orphan k t y (put_row t r y tabs))
-      = rw e (moved-counted k t r y tabs h) in
+      = rw e (moved_counted k t r y tabs h) in
       let g : (stranded_rows k t r x y tabs ≡ 0) × (stranded_rows k t r y x tabs ≡ 0) = stranded_unmoved t r tabs in
       let o : own_orphan k t x tabs ≡ own_orphan k t y (put_row t r y tabs) = own_unmoved t r tabs h e in
       omega arith

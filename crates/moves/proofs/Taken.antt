@@ -132,11 +132,11 @@ module _ (k : ForeignKey) (t r : ℕ) (x y : Row) (tabs : Tables) where
         ∙ ap (λ b. pick (eqb k.parent t && (not b && ((live x && not (any (null_at x) (parent_key k))) && not (same_parent_key k x y)))) left_rows) (sym u)
 
     -- child row by child row: those that the old row's actions take and that no other parent row serves. Whatever the tables: windows may overlap, and two parent rows serve one child
-    pub stranded-scan :
+    pub stranded_scan :
         stranded_rows k t r x y tabs
         ≡ pick (fires y t x k) (count (λ c. takes k x c && unserved k y (except r (get_or tabs k.parent [])) c) (except_if (eqb k.child t) r (get_or tabs k.child [])))
     unfolding pick
-    stranded-scan = go k.broken refl
+    stranded_scan = go k.broken refl
       where
         go : (b : Bool) → k.broken ≡ b → stranded_rows k t r x y tabs ≡ pick (fires y t x k) left_rows
         go false u = scan_whole u
@@ -146,7 +146,7 @@ module _ (k : ForeignKey) (t r : ℕ) (x y : Row) (tabs : Tables) where
     pub stranded_clear : (w : Window) → k.windows ≡ w ∷ [] → any (clashes k x w) (except r (get_or tabs k.parent [])) ≡ false
         → stranded_rows k t r x y tabs
         ≡ pick (fires y t x k) (count (λ c. takes k x c && not (serves k c y)) (except_if (eqb k.child t) r (get_or tabs k.child [])))
-    stranded_clear w one h = stranded-scan ∙ ap (pick (fires y t x k)) (λ i. count (λ c. left_clear k same_count x y others_of w one h c i) children_of_lem)
+    stranded_clear w one h = stranded_scan ∙ ap (pick (fires y t x k)) (λ i. count (λ c. left_clear k same_count x y others_of w one h c i) children_of_lem)
 
     fires_changed : fires y t x k ≡ true → not (same_parent_key k x y) ≡ true
     unfolding fires
@@ -159,7 +159,7 @@ module _ (k : ForeignKey) (t r : ℕ) (x y : Row) (tabs : Tables) where
     pub stranded_rows_lem : k.windows ≡ [] → stranded_rows k t r x y tabs ≡ pick (fires y t x k && not (any (same_parent_key k x) (except r (get_or tabs k.parent [])))) (count (takes k x) (except_if (eqb k.child t) r (get_or tabs k.child [])))
     unfolding pick
     stranded_rows_lem none =
-        stranded-scan
+        stranded_scan
         ∙ ap (pick (fires y t x k))
         ((λ i. count (λ c. left_twin k same_count x y others_of none c i) children_of_lem)
         ∙ count_given (not (same_parent_key k x y) && not (any (same_parent_key k x) others_of)) (takes k x) children_of_lem)

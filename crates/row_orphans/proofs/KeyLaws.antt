@@ -29,7 +29,7 @@ use Rattle.rows.specs.Sought.{has_sought, SoughtIn, with_key, SoughtOf}
 use Rattle.rows.proofs.SoughtLaws.{sought_ready, any_sought, count_sought}
 use Rattle.constraints.proofs.ServedLaws.{some_columns}
 use Rattle.moves.specs.Movement.{pick, except_if, own_orphan, stranded_rows}
-use Rattle.moves.proofs.Taken.{stranded-scan, stranded_rows_lem, pick_zero}
+use Rattle.moves.proofs.Taken.{stranded_scan, stranded_rows_lem, pick_zero}
 use Rattle.row_orphans.specs.RowOrphans.{taken_rows, has_twin}
 
 -- ---- the row itself
@@ -54,7 +54,7 @@ module _ (k : ForeignKey) (same : length k.parent_columns ≡ length k.child_col
 
   pub none_fires : fires y t x k ≡ false → 0 ≡ stranded_rows k t r x y tabs
   unfolding pick
-  none_fires h = sym (stranded-scan k t r x y tabs (sym same) ∙ none_picked _ h)
+  none_fires h = sym (stranded_scan k t r x y tabs (sym same) ∙ none_picked _ h)
     where
       none_picked : {b : Bool} (n : ℕ) → b ≡ false → pick b n ≡ 0
       none_picked n e = ap (λ (b : Bool). pick b n) e

@@ -182,11 +182,11 @@ unfolding bound_in two_keys
 vacant_rows = refl
 
 -- a column of two keys counts once, both columns of one key
-pub shared-column :
+pub shared_column :
     bound_in (two_keys 2 2) ([] ∷ ((pos 256 ∷ pos 7 ∷ []) ∷ []) ∷ []) ∷ bound_in (pair_key 0 2 0) ([] ∷ ((pos 256 ∷ pos 7 ∷ pos 8 ∷ []) ∷ []) ∷ []) ∷ []
     ≡ 2 ∷ 3 ∷ []
 unfolding bound_in two_keys pair_key
-shared-column = refl
+shared_column = refl
 
 -- that of a broken key counts too, unless it is NULL
 pub broken_counted :

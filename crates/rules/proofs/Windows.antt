@@ -19,20 +19,20 @@ abbrev first : ℤ
 first = negsuc 0x7FFFFFFFFFFFFFFF
 
 -- a window holds its first day and not its end, days below 0 come before 0, and one whose end is its first day or before it is empty
-pub window-holds :
+pub window_holds :
     map (λ (x : ℤ × ℤ × ℤ). is_within x.0 x.1 x.2)
     ((pos 10, pos 20, pos 9) ∷ (pos 10, pos 20, pos 10) ∷ (pos 10, pos 20, pos 19) ∷ (pos 10, pos 20, pos 20) ∷ (negsuc 4, pos 3, negsuc 4) ∷ (negsuc 4, pos 3, negsuc 5) ∷ (first, last, first) ∷ (first, last, last) ∷ (pos 5, pos 5, pos 5) ∷ (pos 5, pos 3, pos 4) ∷ [])
     ≡ false ∷ true ∷ true ∷ false ∷ true ∷ false ∷ true ∷ false ∷ false ∷ false ∷ []
 unfolding is_within
-window-holds = refl
+window_holds = refl
 
 -- one day is enough; windows that touch share none, nor does an empty one, wherever it stands
-pub windows-share :
+pub windows_share :
     map (λ (x : ℤ × ℤ × ℤ × ℤ). shares_day x.0 x.1 x.2 x.3)
     ((pos 10, pos 20, pos 19, pos 30) ∷ (pos 10, pos 20, pos 20, pos 30) ∷ (pos 10, pos 20, pos 12, pos 13) ∷ (pos 5, pos 5, pos 3, pos 8) ∷ (pos 3, pos 8, pos 6, pos 5) ∷ (first, last, negsuc 0, pos 0) ∷ [])
     ≡ true ∷ false ∷ true ∷ false ∷ false ∷ true ∷ []
 unfolding shares_day
-windows-share = refl
+windows_share = refl
 
 -- ---- calls
 

@@ -77,7 +77,7 @@ bounded s = all (λ k. bounded_key s k k.on_delete) s.keys
 -- a delete: of one row (kind 3), or of every row found (kind 10)
 pub data Deletes : Call → Type 0 where
   one_row : {t r : ℕ} → Deletes (delete t r)
-  rows_found_lem : {t c m : ℕ} {v : ℤ} → Deletes (delete_where t c m v)
+  found_rows : {t c m : ℕ} {v : ℤ} → Deletes (delete_where t c m v)
 
 -- the sum over the rows of an area
 unfoldable pub area_bound : Schema → List ℤ → ℕ

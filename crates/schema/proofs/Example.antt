@@ -103,7 +103,7 @@ unfolding windowed_s check_schema Check.well_formed Check.header_rules Check.sta
 windowed_keys = refl
 
 -- a windowed key of one column, one that sets NULL, one that cascades, a byte 15 of 2
-pub windowed-refused :
+pub windowed_refused :
     map check_schema (set bytes_s 191 1 ∷ set (windowed_s 3 3 0 1) 179 2 ∷ set (windowed_s 3 3 0 1) 180 4 ∷ set (windowed_s 3 3 0 1) 191 2 ∷ []) ≡ replicate 4 Malformed
 unfolding windowed_s check_schema Check.well_formed Check.header_rules Check.starts_with Check.header_rest Check.table_rules Check.size_rules Check.table_rest Check.mask_rule Check.key_rules Check.code_rules Check.windowed_rule Check.key_rest Fields.column_rule Check.columns_rule Check.new_column Bytes.bit all_from every and_all bytes_s
-windowed-refused = refl
+windowed_refused = refl

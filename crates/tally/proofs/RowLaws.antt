@@ -29,7 +29,7 @@ use Rattle.sums.proofs.SumLaws.{length_less, length_plus}
 use Rattle.sums.proofs.KeptSmall.{kept_small, range_all, less_small}
 use Rattle.moves.specs.Movement.{pick, except_if, unserved, stranded, own_orphan, stranded_rows}
 use Rattle.moves.specs.Tally.{ahead, Follows, Tallied, TalliedAt}
-use Rattle.moves.proofs.Moved.{moved-counted, stranded_after}
+use Rattle.moves.proofs.Moved.{moved_counted, stranded_after}
 use Rattle.moves.proofs.Telescope.{plus_zeros, less_zeros, less_turn, both_more}
 use Rattle.rows.proofs.TableLaws.{columns_few}
 use Rattle.row_orphans.specs.RowOrphans.{row_orphans, row_counts}
@@ -40,7 +40,7 @@ row_moves : (t r : ℕ) (y : Row) (tabs : Tables) → r < length (get_or tabs t 
 unfolding row_orphans
 row_moves t r y tabs h k =
     let after = stranded_after k t r (row_at t r tabs) y y tabs in
-    omega (arith, moved-counted k t r y tabs h, after)
+    omega (arith, moved_counted k t r y tabs h, after)
 
 -- ---- images, which are rows with zeros after them
 module _ (x : Row) where

@@ -24,7 +24,7 @@ use Rattle.bridge.proofs.Tests.{and_both}
 use Rattle.bridge.proofs.KeyLaws.{full_same, serves_same, get_padded}
 use Rattle.bridge.proofs.MapLaws.{child_full}
 use Rattle.moves.specs.Movement.{pick, except_if, unserved, stranded_rows}
-use Rattle.moves.proofs.Taken.{stranded-scan, stranded_clear}
+use Rattle.moves.proofs.Taken.{stranded_scan, stranded_clear}
 use Rattle.rows.specs.declared.SoughtKey.{SoughtKey}
 use Rattle.rows.specs.declared.TableRows.{TableRows}
 use Rattle.rows.specs.Sought.{SoughtIn, SoughtOf}
@@ -202,7 +202,7 @@ module _ (b : List ℕ) (k : ℕ) (x : WindowKey) (h : WindowColumns b k x) wher
       unfolding pick
       left_stranded true e =
           (λ i. count (λ c. takes K old c && left_asked K new others_of c i) children_of)
-          ∙ sym (stranded-scan K t r old new tabs (same_count b k x h) ∙ ap (λ (f : Bool). pick f (count (λ c. takes K old c && unserved K new others_of c) children_of)) fired)
+          ∙ sym (stranded_scan K t r old new tabs (same_count b k x h) ∙ ap (λ (f : Bool). pick f (count (λ c. takes K old c && unserved K new others_of c) children_of)) fired)
       left_stranded false e =
           (λ i. count (λ c. takes K old c && left_clear K new others_of c i) children_of)
           ∙ sym (stranded_clear K t r old new tabs (same_count b k x h) (window_of x) h.window_is (sym e) ∙ ap (λ (f : Bool). pick f (count (λ c. takes K old c && not (serves K c new)) children_of)) fired)
@@ -210,7 +210,7 @@ module _ (b : List ℕ) (k : ℕ) (x : WindowKey) (h : WindowColumns b k x) wher
       pub stranded_none : ((c : Row) → takes K old c ≡ true → serves K c new ≡ true) → 0 ≡ stranded_rows K t r old new tabs
       unfolding pick unserved
       stranded_none kept =
-          sym (stranded-scan K t r old new tabs (same_count b k x h)
+          sym (stranded_scan K t r old new tabs (same_count b k x h)
           ∙ ap (λ (f : Bool). pick f (count (λ c. takes K old c && unserved K new others_of c) children_of)) fired
           ∙ count_none (λ c. takes K old c && unserved K new others_of c) (λ c. by c (takes K old c) refl) children_of)
         where

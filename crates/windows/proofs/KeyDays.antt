@@ -76,7 +76,7 @@ module _ (b : List ℕ) (k : ℕ) where
         let wide : length K.parent_columns ≡ n = same_width b w.accepted k w.key ∙ sym e in
         let is = window_read K.child_columns K.parent_columns cs ps n (sym e) wide K.windows h.windowed c p in
         let below = window_below b w.accepted k w.key w.whole _ is in
-        record { columns = columns; window_is = is; day_within_lem = below.0; end_within = below.1 }
+        record { columns = columns; window_is = is; day_column_within = below.0; end_within = below.1 }
 
   -- ---- a key by its columns
 
@@ -104,7 +104,7 @@ module _ (b : List ℕ) (k : ℕ) where
           child = child_wide b k x.pairs.n x.pairs.cs x.pairs.ps h.columns.columns;
           parent = parent_wide b k x.pairs.n x.pairs.ps h.columns.columns.parents;
           some = few_pairs;
-          day = omega (arith, h.day_within_lem, columns_few b whole.accepted K.child (child_table_lem b whole.accepted k whole.key));
+          day = omega (arith, h.day_column_within, columns_few b whole.accepted K.child (child_table_lem b whole.accepted k whole.key));
           end = omega (arith, h.end_within, columns_few b whole.accepted K.parent (parent_table b k whole));
         }
 

@@ -92,8 +92,8 @@ module _ (b : List ℕ) (k : ℕ) (x : WindowKey) (h : WindowColumns b k x) (old
   left_days_in = by (keeps_pairs x old new)
     where
       by : (t : Bool) → DaysIn (suc (table_of (schema_of b) K.child).columns) (cond t (narrowed x old new) (child_days old x))
-      by true = omega (arith, h.day_within_lem)
-      by false = omega (arith, h.day_within_lem)
+      by true = omega (arith, h.day_column_within)
+      by false = omega (arith, h.day_column_within)
 
   -- a child row that maps to the old image: its pairs are equal, and its day is in the window
   module _ (row : Row) (taken : takes K old row ≡ true) where

@@ -25,7 +25,7 @@ window_of x = record { day = x.day; first = x.first }
 pub record WindowColumns (b : List ℕ) (k : ℕ) (x : WindowKey) : Type 0 where
   pub columns : KeyColumns b k x.pairs
   pub window_is : (key_of (schema_of b) k).windows ≡ window_of x ∷ []
-  pub day_within_lem : x.day < (table_of (schema_of b) (key_of (schema_of b) k).child).columns
+  pub day_column_within : x.day < (table_of (schema_of b) (key_of (schema_of b) k).child).columns
   pub end_within : suc x.first < (table_of (schema_of b) (key_of (schema_of b) k).parent).columns
 
 -- they are columns of images

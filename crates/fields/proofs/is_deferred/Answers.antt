@@ -4,6 +4,5 @@ use lib.Dec.{eqb}
 use Rattle.schema.proofs.FieldLaws.{read_deferred}
 use Rattle.fields.proofs.is_deferred.Goals as goal
 
--- src/lib.rt:126:1
 pub returns : goal.returns
 returns c = read_deferred c.args.bytes.now c.requires.0 c.args.k c.requires.1 (ap (λ (x : ℕ). eqb x 1) c.key_byte.ensures.0)

@@ -5,15 +5,12 @@ use Rattle.schema.specs.Bytes
 use Rattle.schema.proofs.FieldLaws.{header_within, key_within}
 use Rattle.fields.proofs.key_byte.Goals as goal
 
--- src/lib.rt:106:28
 pub key_start-requires : goal.key_start-requires
 key_start-requires c = (header_within _ c.requires.0, key_within _ c.requires.0 _ c.requires.1.0)
 
--- src/lib.rt:106:5
 pub byte_at-requires : goal.byte_at-requires
 byte_at-requires c = omega (arith, key_within c.args.bytes.now c.requires.0 c.args.k c.requires.1.0)
 
--- src/lib.rt:102:1
 pub returns : goal.returns
 returns c =
     let key_start = c.key_start in

@@ -3,7 +3,6 @@ use Rattle.schema.specs.Fields
 use Rattle.schema.proofs.FieldLaws.{read_on_delete}
 use Rattle.fields.proofs.on_delete.Goals as goal
 
--- src/lib.rt:147:1
 pub returns : goal.returns
 returns c =
     let key_byte = c.key_byte in

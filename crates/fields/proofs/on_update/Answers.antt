@@ -3,7 +3,6 @@ use Rattle.schema.specs.Fields
 use Rattle.schema.proofs.FieldLaws.{read_on_update}
 use Rattle.fields.proofs.on_update.Goals as goal
 
--- src/lib.rt:155:1
 pub returns : goal.returns
 returns c =
     let key_byte = c.key_byte in

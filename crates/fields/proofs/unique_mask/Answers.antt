@@ -4,11 +4,9 @@ use Rattle.schema.proofs.FieldLaws.{byte_assoc, read_unique}
 use native.Mathlib.Omega.{arith}
 use Rattle.fields.proofs.unique_mask.Goals as goal
 
--- src/lib.rt:80:5
 pub table_byte-requires : goal.table_byte-requires
 table_byte-requires c = (c.requires.0, (c.requires.1.0, omega (arith, c.requires.1.1)))
 
--- src/lib.rt:76:1
 pub returns : goal.returns
 returns c =
     let e = c.table_byte.ensures.0 ∙ byte_assoc c.args.bytes.now (Fields.table_start c.args.t) 4 c.args.i in
