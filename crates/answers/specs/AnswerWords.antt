@@ -1,8 +1,7 @@
 -- An answer as words: "code (0 or a refusal), rows changed, and the net change in all kept orphans".
 -- Assumes nothing.
 use Rattle.std.specs.Prelude.{List, [], ◌∷◌, ℤ, pos}
-use Rattle.rules.specs.declared.Answer.{Answer}
-use Rattle.rules.specs.Refusals.{shown}
+use Rattle.rules.specs.Refusals.{Answer, shown}
 
 -- an answer's three words: code, rows changed, net
 unfoldable pub answer_words : Answer → List ℤ

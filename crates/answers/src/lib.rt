@@ -10,38 +10,21 @@ ghost use Rattle.answers.specs.AnswerWords.{answer_words};
 use rules::{Answer, Refusal};
 
 // The paper's number of a refusal.
+#[tactic(auto, unfolding(rules::specs::Refusals::number))]
 pub fn refusal_number(refusal: Refusal) -> i64
     ensures { result ≡ pos (number refusal) }
 {
-    match refusal {
-        Refusal::SchemaMalformed => 1,
-        Refusal::WrongLength => 3,
-        Refusal::BadCall => 4,
-        Refusal::Damaged => 10,
-        Refusal::RowState => 11,
-        Refusal::LevelState => 12,
-        Refusal::LevelsFull => 13,
-        Refusal::TooDeep => 14,
-        Refusal::JournalFull => 15,
-        Refusal::NotNull => 16,
-        Refusal::NotUnique => 17,
-        Refusal::Restricted => 18,
-        Refusal::KeptOutOfRange => 19,
-        Refusal::OrphansLeft => 20,
-        Refusal::CommitWithOrphans => 21,
-        Refusal::ListTooShort => 22,
-        Refusal::BrokenKey => 23,
-        Refusal::BadWindow => 24,
-    }
+    refusal as i64
 }
 
 // An answer's code.
+#[tactic(auto, unfolding(rules::specs::Refusals::shown))]
 pub fn code_of(answer: Answer) -> i64
     ensures { result ≡ pos (shown answer).0 }
 {
     match answer {
-        Answer::Done(_, _) => 0,
-        Answer::Refused(refusal) => refusal_number(refusal),
+        Ok(_) => 0,
+        Err(refusal) => refusal_number(refusal),
     }
 }
 
@@ -51,8 +34,8 @@ pub fn answer_words(answer: Answer) -> [i64; 3]
     ensures { result ≡ answer_words answer }
 {
     match answer {
-        Answer::Done(changed, net) => [0, words::word_of(changed), net],
-        Answer::Refused(refusal) => [refusal_number(refusal), 0, 0],
+        Ok(done) => [0, words::word_of(done.changed), done.net],
+        Err(refusal) => [refusal_number(refusal), 0, 0],
     }
 }
 
@@ -61,11 +44,5 @@ pub fn put_answer(answers: &mut [i64], i: usize, answer: [i64; 3])
     requires { i * 3 + 3 ≤ length answers.old }
     ensures { answers.new ≡ sets answers.old (i * 3) answer }
 {
-    let at = i * 3;
-    let code = answer[0];
-    let changed = answer[1];
-    let net = answer[2];
-    answers[at] = code;
-    answers[at + 1] = changed;
-    answers[at + 2] = net;
+    words::put_words(answers, i * 3, &answer);
 }

@@ -1,3 +1,4 @@
 pub mod Places
+pub mod Worked
 pub mod Undone
 pub mod Spare

@@ -5,6 +5,7 @@ use mathlib.Core.Bool.{Bool, true, false, ◌&&◌, false≢true}
 use mathlib.Core.List.{List, [], ◌∷◌}
 use Prim.Native.Nat.{ℕ, zero, suc, ◌+◌, ◌-◌, ◌*◌, ◌/◌, ◌%◌, ◌≤◌, ◌<◌}
 use native.Mathlib.Nat.{add-zero}
+use native.Mathlib.Numerals.{add-one}
 use native.Mathlib.Omega.{arith}
 use borrow.Author.Tests.{leb-true, lt-leb, le-leb, lt-ltb}
 use lib.Dec.{leb, ltb, eqb, eqb-zero-suc, leb-suc-zero}
@@ -125,12 +126,12 @@ unfoldable pub kept_from : Schema → List ℤ → ℕ → ℕ → Bool
 kept_from s a at k = kept_in_range s (drop k s.keys) (take (32 - k) (drop (at + k) a))
 
 module _ (s : Schema) (a : List ℤ) (at : ℕ) where
-  pub kept_start : kept_in_range s s.keys (take 32 (drop at a)) ≡ kept_from s a at 0
+  kept_start : kept_in_range s s.keys (take 32 (drop at a)) ≡ kept_from s a at 0
   unfolding kept_from
   kept_start = rw add-zero refl
 
   module _ (k : ℕ) where
-    pub kept_none : 32 ≤ k → kept_from s a at k ≡ true
+    kept_none : 32 ≤ k → kept_from s a at k ≡ true
     unfolding kept_from kept_in_range
     kept_none h = let e : 32 - k ≡ 0 = omega arith in rw e refl
 
@@ -144,11 +145,21 @@ module _ (s : Schema) (a : List ℤ) (at : ℕ) where
           ∙ kept_cons s (drop k s.keys) (get_or a (at + k) 𝟘) (take (32 - (k + 1)) (drop (suc (at + k)) a))
           ∙ ap₂ (λ ks m. in_range (kept_limit s (drop k s.keys)) (get_or a (at + k) 𝟘) && kept_in_range s ks (take (32 - (k + 1)) (drop m a))) (drop-drop 1 k s.keys) q
 
-      pub kept_stop : in_range (kept_limit s (drop k s.keys)) (get_or a (at + k) 𝟘) ≡ false → kept_from s a at k ≡ false
-      kept_stop e = kept_more ∙ ap (λ t. t && kept_from s a at (k + 1)) e
+  -- the kept number of foreign key k
+  abbrev pub kept_part : ℕ → Bool
+  kept_part k = in_range (kept_limit s (drop k s.keys)) (get_or a (at + k) 𝟘)
 
-      pub kept_go : in_range (kept_limit s (drop k s.keys)) (get_or a (at + k) 𝟘) ≡ true → kept_from s a at k ≡ kept_from s a at (k + 1)
-      kept_go e = kept_more ∙ ap (λ t. t && kept_from s a at (k + 1)) e
+  module _ (fits : at + 32 ≤ length a) where
+    kept_rest : (n k : ℕ) → k + n ≡ 32 → kept_from s a at k ≡ all_from kept_part n k
+    unfolding all_from
+    kept_rest zero k e = kept_none k (omega (arith, e))
+    kept_rest (suc n) k e =
+        kept_more k (omega (arith, e)) fits
+        ∙ ap (λ t. kept_part k && t) (ap (kept_from s a at) (add-one k) ∙ kept_rest n (suc k) (omega (arith, e)))
+
+    -- all of them, one by one
+    pub kept_is : kept_in_range s s.keys (take 32 (drop at a)) ≡ all_from kept_part 32 0
+    kept_is = kept_start ∙ kept_rest 32 0 refl
 
 -- ---- open levels
 

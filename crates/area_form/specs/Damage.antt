@@ -1,10 +1,9 @@
 -- Refusal 10, part by part, on an area's words.
 -- Assumes nothing.
 use Rattle.std.specs.Prelude.{◌≡◌, Bool, ◌&&◌, List, [], ◌∷◌, map, reverse, ℕ, ◌+◌, ◌*◌, ℤ, length, get_or, take}
-use Rattle.schema.specs.declared.SchemaAnswer.TheVariants.{Accepted}
+use Rattle.schema.specs.Check.{Accepted, check_schema}
 use Rattle.schema.specs.Records.{ForeignKey, Schema, table_of}
 use Rattle.schema.specs.Fields.{schema_of}
-use Rattle.schema.specs.Check.{check_schema}
 use Rattle.schema.specs.Sizes.{area_size}
 use Rattle.rules.specs.Lists.{𝟘}
 use Rattle.rules.specs.Values.{natural, in_range, same_word}

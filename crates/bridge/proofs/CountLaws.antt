@@ -3,12 +3,12 @@
 use mathlib.Core.Path.{◌≡◌, refl, sym, ap, ◌∙◌}
 use mathlib.Core.Bool.{Bool, true, false, not, ◌||◌, false≢true}
 use mathlib.Core.List.{List, [], ◌∷◌, ◌++◌}
-use Prim.Native.Nat.{ℕ, suc, ◌+◌, ◌≤◌}
+use Prim.Native.Nat.{ℕ, zero, suc, ◌+◌, ◌≤◌}
 use native.Mathlib.Omega.{arith}
 use borrow.Author.Tests.{ltb-true, lt-ltb}
 use lib.Dec.{ltb}
-use lib.ListN.{length}
-use Rattle.schema.specs.Ranges.{all}
+use lib.ListN.{length, get_or}
+use Rattle.schema.specs.Ranges.{all, any_from}
 use Rattle.rules.specs.Lists.{any, count, one}
 use Rattle.bridge.proofs.Bits.{both_ways}
 
@@ -105,3 +105,16 @@ any_less q p f (x ∷ xs) h =
     not_passed : (b : Bool) → (b ≡ true → p x ≡ true) → p x ≡ false → b ≡ false
     not_passed true g e = absurd (false≢true (sym e ∙ g refl))
     not_passed false g e = refl
+
+-- ---- a test of each element, by its number
+
+one_later : (p : ℕ → Bool) (n j : ℕ) → any_from p n (suc j) ≡ any_from (λ i. p (suc i)) n j
+unfolding any_from
+one_later p zero j = refl
+one_later p (suc n) j = ap (λ (b : Bool). p (suc j) || b) (one_later p n (suc j))
+
+pub any_by_number : {A : Type 0} (p : A → Bool) (d : A) (xs : List A) → any_from (λ i. p (get_or xs i d)) (length xs) 0 ≡ any p xs
+unfolding any_from any
+any_by_number p d [] = refl
+any_by_number p d (x ∷ xs) =
+    ap (λ (b : Bool). p x || b) (one_later (λ i. p (get_or (x ∷ xs) i d)) (length xs) 0 ∙ any_by_number p d xs) ∙ sym (any_cons p x xs)

@@ -8,7 +8,7 @@ use lib.IntN.{ℤ}
 use lib.ListN.{length}
 use Rattle.schema.specs.Records.{Schema}
 use Rattle.schema.specs.Sizes.{area_size}
-use Rattle.rules.specs.declared.Answer.{Answer}
+use Rattle.rules.specs.Refusals.{Answer}
 use Rattle.rules.specs.Book.{Work, Book, with_work}
 use Rattle.rules.specs.Statement.{Turn}
 use Rattle.rules.specs.Area.{words, view, legible, on_words}

@@ -9,12 +9,11 @@ use borrow.Author.Tests.{lt-ltb}
 use lib.Dec.{ltb}
 use lib.ListN.{length, get_or, take}
 use lib.Seq.{get_or-take}
-use Rattle.schema.specs.declared.SchemaAnswer.TheVariants.{Accepted}
+use Rattle.schema.specs.Check.{Accepted, check_schema}
 use Rattle.schema.specs.Bounds.{Columns}
 use Rattle.schema.specs.Ranges.{all}
 use Rattle.schema.specs.Records.{Window, ForeignKey, key_of, table_of, child_key, unique_columns, parent_key}
 use Rattle.schema.specs.Fields.{schema_of}
-use Rattle.schema.specs.Check.{check_schema}
 use Rattle.schema.proofs.FieldLaws.{read_windows, read_child_columns, read_parent_columns, window_below}
 use Rattle.bridge.proofs.Tests.{all_append, all_cons, all_places}
 

@@ -9,16 +9,15 @@ use borrow.Author.Tests.{eq-eqb, ne_eqb, eqb-true, eqb-false}
 use lib.Dec.{eqb}
 use lib.IntN.{ℤ}
 use lib.ListN.{length}
-use Rattle.schema.specs.declared.SchemaAnswer.{SchemaAnswer}
-use Rattle.schema.specs.declared.SchemaAnswer.TheVariants.{Accepted, Malformed}
+use Rattle.schema.specs.Check.{SchemaAnswer, Accepted, check_schema}
+use Rattle.schema.specs.declared.SchemaError.{SchemaError}
+use Rattle.schema.specs.declared.SchemaError.TheVariants.{Malformed}
 use Rattle.schema.specs.Fields.{schema_of}
-use Rattle.schema.specs.Check.{check_schema}
 use Rattle.schema.specs.Sizes.{area_size}
 use Rattle.rules.specs.declared.Refusal.{Refusal}
 use Rattle.rules.specs.declared.Refusal.TheVariants.{SchemaMalformed, WrongLength, Damaged}
-use Rattle.rules.specs.declared.Verdict.{Verdict}
-use Rattle.rules.specs.declared.Verdict.TheVariants.{Pass, Fail}
-use Rattle.rules.specs.Refusals.{failing}
+use Rattle.std.specs.Prelude.{Ok, Err}
+use Rattle.rules.specs.Refusals.{Verdict, failing}
 use Rattle.rules.specs.State.{undamaged}
 use Rattle.rules.specs.Area.{view, legible}
 use Rattle.rules.specs.Questions.{schema_verdict, area_verdict}
@@ -27,16 +26,16 @@ use Rattle.bridge.proofs.SoundLaws.{sound_area}
 
 module _ (bs : List ℕ) (ws : List ℤ) where
   -- ---- the checks in their order, whatever is asked besides
-  pub malformed_first : check_schema bs ≡ Malformed → (v : Verdict) → area_verdict bs ws v ≡ Fail SchemaMalformed
+  pub malformed_first : {e : SchemaError} → check_schema bs ≡ Err e → (v : Verdict) → area_verdict bs ws v ≡ Err SchemaMalformed
   unfolding area_verdict schema_verdict
-  malformed_first e v = rw e refl
+  malformed_first {e = Malformed} h v = rw h refl
 
   module _ (accepted : check_schema bs ≡ Accepted) where
-    pub length_second : (length ws ≡ area_size (schema_of bs) → ⊥) → (v : Verdict) → area_verdict bs ws v ≡ Fail WrongLength
+    pub length_second : (length ws ≡ area_size (schema_of bs) → ⊥) → (v : Verdict) → area_verdict bs ws v ≡ Err WrongLength
     unfolding area_verdict schema_verdict failing
     length_second n v = rw (accepted, ne_eqb (length ws) (area_size (schema_of bs)) n) refl
 
-    pub damage_third : length ws ≡ area_size (schema_of bs) → legible (schema_of bs) ws && undamaged (schema_of bs) (view (schema_of bs) ws) ≡ false → (v : Verdict) → area_verdict bs ws v ≡ Fail Damaged
+    pub damage_third : length ws ≡ area_size (schema_of bs) → legible (schema_of bs) ws && undamaged (schema_of bs) (view (schema_of bs) ws) ≡ false → (v : Verdict) → area_verdict bs ws v ≡ Err Damaged
     unfolding area_verdict schema_verdict failing
     damage_third size d v = rw (accepted, eq-eqb (length ws) (area_size (schema_of bs)) size, d) refl
 
@@ -48,7 +47,7 @@ module _ (bs : List ℕ) (ws : List ℤ) where
 
   -- ---- one of them refuses, or the area is sound
   data Judged : Type 0 where
-    refused : (r : Refusal) → ((v : Verdict) → area_verdict bs ws v ≡ Fail r) → Judged
+    refused : (r : Refusal) → ((v : Verdict) → area_verdict bs ws v ≡ Err r) → Judged
     sound : Sound bs ws → Judged
 
   judged : Judged
@@ -63,20 +62,20 @@ module _ (bs : List ℕ) (ws : List ℤ) where
       by_length a false e = refused WrongLength (length_second a (eqb-false (length ws) (area_size (schema_of bs)) e))
 
       by_schema : (x : SchemaAnswer) → check_schema bs ≡ x → Judged
-      by_schema Accepted e = by_length e _ refl
-      by_schema Malformed e = refused SchemaMalformed (malformed_first e)
+      by_schema (Ok tt) e = by_length e _ refl
+      by_schema (Err Malformed) e = refused SchemaMalformed (malformed_first e)
 
-  pub passes_sound : area_verdict bs ws Pass ≡ Pass → Sound bs ws
+  pub passes_sound : area_verdict bs ws (Ok tt) ≡ Ok tt → Sound bs ws
   passes_sound e = go judged
     where
       go : Judged → Sound bs ws
-      go (refused r f) = absurd (let never : Fail r ≡ Pass = sym (f Pass) ∙ e in let z : ◌≡◌ {A = ℕ} 0 1 = cc in omega arith)
+      go (refused r f) = absurd (let never : Err r ≡ Ok tt = sym (f (Ok tt)) ∙ e in let z : ◌≡◌ {A = ℕ} 0 1 = cc in omega arith)
       go (sound h) = h
 
   -- what 1, 3 or 10 refuses is refused so whatever is asked besides
-  pub refused_first : (r : Refusal) → area_verdict bs ws Pass ≡ Fail r → (v : Verdict) → area_verdict bs ws v ≡ Fail r
+  pub refused_first : (r : Refusal) → area_verdict bs ws (Ok tt) ≡ Err r → (v : Verdict) → area_verdict bs ws v ≡ Err r
   refused_first r e v = go judged
     where
-      go : Judged → area_verdict bs ws v ≡ Fail r
-      go (refused q f) = f v ∙ sym (f Pass) ∙ e
-      go (sound h) = absurd (let never : Pass ≡ Fail r = sym (sound_passes h Pass) ∙ e in let z : ◌≡◌ {A = ℕ} 0 1 = cc in omega arith)
+      go : Judged → area_verdict bs ws v ≡ Err r
+      go (refused q f) = f v ∙ sym (f (Ok tt)) ∙ e
+      go (sound h) = absurd (let never : Ok tt ≡ Err r = sym (sound_passes h (Ok tt)) ∙ e in let z : ◌≡◌ {A = ℕ} 0 1 = cc in omega arith)

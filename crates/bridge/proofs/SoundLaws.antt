@@ -12,8 +12,7 @@ use Rattle.schema.specs.Ranges.{all}
 use Rattle.schema.specs.Records.{Schema}
 use Rattle.schema.specs.Fields.{schema_of}
 use Rattle.schema.specs.Sizes.{area_size}
-use Rattle.schema.specs.Check.{check_schema}
-use Rattle.schema.specs.declared.SchemaAnswer.TheVariants.{Accepted}
+use Rattle.schema.specs.Check.{check_schema, Accepted}
 use Rattle.schema.proofs.RangeLaws.{and_left, and_right}
 use Rattle.rules.specs.Book.{Level, Book}
 use Rattle.rules.specs.State.{in_transaction, opener_fits, kept_in_range, saved_in_range, uses_rise, placed, undamaged}

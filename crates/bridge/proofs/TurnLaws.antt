@@ -5,8 +5,8 @@ use Prim.Native.Nat.{ℕ, zero, suc, ◌+◌, ◌-◌, ◌≤◌, ◌<◌}
 use native.Mathlib.Numerals.{add-one}
 use native.Mathlib.Omega.{arith}
 use Rattle.rules.specs.declared.Refusal.{Refusal}
-use Rattle.rules.specs.declared.Verdict.{Verdict}
-use Rattle.rules.specs.declared.Verdict.TheVariants.{Pass, Fail}
+use Rattle.rules.specs.Refusals.{Verdict}
+use Rattle.std.specs.Prelude.{Ok, Err}
 use Rattle.rules.specs.Lists.{up_from}
 use Rattle.rules.specs.Book.{Work}
 use Rattle.rules.specs.Change.{Result, go, then, in_turn}
@@ -16,7 +16,7 @@ module _ (turn : ℕ → Work → Result) where
   pub turns_start : (n : ℕ) (w : Work) {m : ℕ} → m ≡ n → in_turn turn (up_from 0 n) w ≡ in_turn turn (up_from 0 (m - 0)) w
   turns_start n w {m} h = let e : m - 0 ≡ n = omega arith in rw e refl
 
-  pub turns_none : (n j : ℕ) (w : Work) → n ≤ j → in_turn turn (up_from j (n - j)) w ≡ result_of Pass w
+  pub turns_none : (n j : ℕ) (w : Work) → n ≤ j → in_turn turn (up_from j (n - j)) w ≡ result_of (Ok tt) w
   unfolding in_turn up_from result_of
   turns_none n j w h = let e : n - j ≡ 0 = omega arith in rw e refl
 
@@ -41,14 +41,14 @@ module _ (turn : ℕ → Work → Result) where
         let e : j + (i - j) ≡ i = omega arith in
         skip_by (i - j) n j w (omega arith) (λ m p q. idle m p (omega arith)) ∙ ap (λ (m : ℕ). in_turn turn (up_from m (n - m)) w) e
 
-    pub turns_past : n ≤ i → in_turn turn (up_from j (n - j)) w ≡ result_of Pass w
+    pub turns_past : n ≤ i → in_turn turn (up_from j (n - j)) w ≡ result_of (Ok tt) w
     turns_past p = skip ∙ turns_none n i w p
 
     module _ (l : i < n) (o : Verdict) (v : Work) (e : turn i w ≡ result_of o v) where
-      pub turns_done : o ≡ Pass → in_turn turn (up_from j (n - j)) w ≡ in_turn turn (up_from (i + 1) (n - (i + 1))) v
+      pub turns_done : o ≡ Ok tt → in_turn turn (up_from j (n - j)) w ≡ in_turn turn (up_from (i + 1) (n - (i + 1))) v
       unfolding then result_of
       turns_done p = skip ∙ turns_first n i w l ∙ rw (e, p) refl
 
-      pub turns_refused : {c : Refusal} → o ≡ Fail c → in_turn turn (up_from j (n - j)) w ≡ result_of (Fail c) v
+      pub turns_refused : {c : Refusal} → o ≡ Err c → in_turn turn (up_from j (n - j)) w ≡ result_of (Err c) v
       unfolding then result_of
       turns_refused p = skip ∙ turns_first n i w l ∙ rw (e, p) refl

@@ -16,9 +16,8 @@ use Rattle.rules.specs.Calls.{in_table}
 use Rattle.rules.specs.Change.{Result, go, stop, then, given, in_turn, Change, taken, row_turn, children, key_turn, actions, admits, admitted, change}
 use Rattle.rules.specs.Found.{found_turn, rows_found}
 use Rattle.rules.specs.Lists.{𝟘, padded, up_from}
-use Rattle.rules.specs.Refusals.{failing, number}
-use Rattle.rules.specs.declared.Verdict.{Verdict}
-use Rattle.rules.specs.declared.Verdict.TheVariants.{Pass, Fail}
+use Rattle.rules.specs.Refusals.{Verdict, failing, number}
+use Rattle.std.specs.Prelude.{Ok, Err}
 use Rattle.rules.specs.Rows.{Row, Tables, row_at, image, put_row, overwrite}
 use Rattle.rules.specs.State.{placed}
 use Rattle.rules.specs.declared.Refusal.{Refusal}
@@ -135,26 +134,26 @@ unfolding given
 fine_given true k p = p
 fine_given false k p = went (nothing _)
 
-fine_admitted : {s : Schema} {w : Work} (v : Verdict) (k : Work → Result) → ((c : Refusal) → v ≡ Fail c → of_change c ≡ true) → (v ≡ Pass → Fine s w (k w)) → Fine s w (admitted v k w)
+fine_admitted : {s : Schema} {w : Work} (v : Verdict) (k : Work → Result) → ((c : Refusal) → v ≡ Err c → of_change c ≡ true) → (v ≡ Ok tt → Fine s w (k w)) → Fine s w (admitted v k w)
 unfolding admitted
-fine_admitted Pass k h p = p refl
-fine_admitted (Fail c) k h p = stopped (h c refl) (nothing _)
+fine_admitted (Ok tt) k h p = p refl
+fine_admitted (Err c) k h p = stopped (h c refl) (nothing _)
 
 -- what a failed check says: nothing of a verdict that passes
 abbrev code_of : Verdict → Refusal
-code_of Pass = TooDeep
-code_of (Fail c) = c
+code_of (Ok tt) = TooDeep
+code_of (Err c) = c
 
-failing_code : (b : Bool) (c d : Refusal) (v : Verdict) → of_change c ≡ true → ((d : Refusal) → v ≡ Fail d → of_change d ≡ true) → failing b c v ≡ Fail d → of_change d ≡ true
+failing_code : (b : Bool) (c d : Refusal) (v : Verdict) → of_change c ≡ true → ((d : Refusal) → v ≡ Err d → of_change d ≡ true) → failing b c v ≡ Err d → of_change d ≡ true
 unfolding failing
 failing_code true c d v h k e = rw (← (ap code_of e)) h
 failing_code false c d v h k e = k d e
 
 abbrev failed : Verdict → Bool
-failed Pass = false
-failed (Fail c) = true
+failed (Ok tt) = false
+failed (Err c) = true
 
-admits_code : (s : Schema) (t r : ℕ) (new : Row) (w : Work) (c : Refusal) → admits s t r new w ≡ Fail c → of_change c ≡ true
+admits_code : (s : Schema) (t r : ℕ) (new : Row) (w : Work) (c : Refusal) → admits s t r new w ≡ Err c → of_change c ≡ true
 unfolding admits of_change number
 admits_code s t r new w c e =
     failing_code _ JournalFull c _ refl
@@ -166,12 +165,12 @@ admits_code s t r new w c e =
     e
 
 -- a change that is admitted has a spare record
-spared_go : (n : ℕ) (v : Verdict) → failing (eqb n 0) JournalFull v ≡ Pass → 0 < n
+spared_go : (n : ℕ) (v : Verdict) → failing (eqb n 0) JournalFull v ≡ Ok tt → 0 < n
 unfolding failing
 spared_go zero v h = absurd (false≢true (sym (ap failed h)))
 spared_go (suc n) v h = omega arith
 
-pub spared : (s : Schema) (t r : ℕ) (new : Row) (w : Work) → admits s t r new w ≡ Pass → 0 < length w.spare
+pub spared : (s : Schema) (t r : ℕ) (new : Row) (w : Work) → admits s t r new w ≡ Ok tt → 0 < length w.spare
 unfolding admits
 spared s t r new w e = spared_go (length w.spare) _ e
 

@@ -1,17 +1,15 @@
 -- What the engine's functions require.
 -- Assumes nothing.
-use Rattle.std.specs.Prelude.{◌≡◌, true, List, ℕ, ◌<◌, ℤ, length, take, drop}
-use Rattle.schema.specs.declared.SchemaAnswer.TheVariants.{Accepted}
+use Rattle.std.specs.Prelude.{◌≡◌, true, List, ℕ, ◌<◌, ℤ, length, take, drop, Ok, Err}
+use Rattle.schema.specs.Check.{Accepted, check_schema}
 use Rattle.schema.specs.Ranges.{all}
 use Rattle.schema.specs.Records.{table_of}
 use Rattle.schema.specs.Fields.{schema_of}
-use Rattle.schema.specs.Check.{check_schema}
 use Rattle.rules.specs.State.{placed, undamaged}
 use Rattle.rules.specs.Area.{view}
 use Rattle.rules.specs.Book.{Work}
 use Rattle.rules.specs.Change.{Result, go, stop}
-use Rattle.rules.specs.declared.Verdict.{Verdict}
-use Rattle.rules.specs.declared.Verdict.TheVariants.{Pass, Fail}
+use Rattle.rules.specs.Refusals.{Verdict}
 use Rattle.bridge.specs.Fit.{work_of, Fit}
 
 -- the schema's bytes are accepted, and the area's words are a book
@@ -41,5 +39,5 @@ row_in a p w = take w (drop p a)
 
 -- how row changes end, with the work that they leave
 unfoldable pub result_of : Verdict → Work → Result
-result_of Pass w = go w
-result_of (Fail c) w = stop c w
+result_of (Ok tt) w = go w
+result_of (Err c) w = stop c w

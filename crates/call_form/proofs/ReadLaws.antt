@@ -6,30 +6,46 @@ use mathlib.Core.List.{List}
 use Prim.Native.Nat.{ℕ, zero, suc, ◌+◌, ◌-◌, ◌≤◌, ◌<◌}
 use native.Mathlib.Omega.{arith}
 use borrow.Author.Tests.{ltb-true, eq-eqb, ne_eqb}
+use Rattle.std.specs.Bool.{then_some}
+use Rattle.std.specs.Option.{MatchOption, IsSomeAnd, ok_or}
+use Rattle.std.specs.Result.{MatchResult}
+use Rattle.std.specs.declared.result.Result.{Result}
+use Rattle.std.specs.declared.option.Option.{Option}
+use Rattle.std.specs.declared.option.Option.TheVariants.{Some, None}
 use lib.Dec.{eqb}
 use lib.IntN.{ℤ}
 use lib.ListN.{length, get_or, drop}
 use lib.Seq.{drop-drop}
 use Rattle.schema.specs.Records.{Schema, table_of}
 use Rattle.schema.proofs.RangeLaws.{and_right}
+use Rattle.rules.specs.declared.Refusal.{Refusal}
+use Rattle.rules.specs.declared.Refusal.TheVariants.{BadCall}
 use Rattle.rules.specs.Lists.{𝟘}
 use Rattle.rules.specs.Values.{nat_of, natural, all_zero}
-use Rattle.rules.specs.Calls.{Call, malformed, insert, update, delete, begin, savepoint, release, rollback_to, rollback, commit, formed_if, parsed, parse, in_table, row_fits, allowed}
+use Rattle.rules.specs.Calls.{Call, malformed, delete, begin, savepoint, release, rollback_to, rollback, commit, formed_if, parsed, parse, in_table, row_fits, allowed}
 use Rattle.bridge.proofs.UndoWords.{in_tables}
-use Rattle.call_form.specs.declared.Request.TheVariants.{DeleteWhere, UpdateWhere}
-use Rattle.call_form.specs.Requests.{call_of, judged, names_row, gives_row, names_level, natural_place}
+use Rattle.call_form.specs.declared.Request.{Request}
+use Rattle.call_form.specs.declared.Request.TheVariants.{Insert, Update, Delete, Begin, Savepoint, Release, RollbackTo, Rollback, Commit, DeleteWhere, UpdateWhere}
+use Rattle.call_form.specs.Requests.{call_of, asked, judged, row_place, column_place, names_row, gives_row, names_level, natural_place}
 
--- a number that is not the least it can be
-pub above : (n k : ℕ) → n ≤ k → (k ≡ n → ⊥) → suc n ≤ k
-above n k h ne = omega arith
-
-pub formed_yes : (c : Call) {t : Bool} → t ≡ true → c ≡ formed_if t c
+-- a request whose words pass a test
+pub asked_if : (t : Bool) (r : Request) (ws : List ℤ) → asked (then_some t r) ws ≡ formed_if t (call_of r ws)
 unfolding formed_if
-formed_yes c e = rw e refl
+asked_if true r ws = refl
+asked_if false r ws = refl
 
-pub formed_no : (c : Call) {t : Bool} → t ≡ false → malformed ≡ formed_if t c
+-- and where there is no request, refusal 4
+pub refused_or : (ws : List ℤ) (o : Option Request) (r : Result Request Refusal) {c : Call} → r ≡ ok_or o BadCall → asked o ws ≡ c → MatchResult r (λ x. call_of x ws ≡ c) (λ e. (e ≡ BadCall) × (malformed ≡ c))
+refused_or ws (Some x) r e h = rw e h
+refused_or ws None r e h = rw e (refl, h)
+
+-- a request that is made of a place, where its words pass a test
+pub asked_of : {A : Type 0} (f : A → Request) (t : Bool) (x : A) (ws : List ℤ) (o : Option A) (r : Option Request) {P : A → Request → Type 0}
+    → o ≡ then_some t x → MatchOption o (r ≡ None) (λ y. IsSomeAnd r (P y)) → ((y : A) (z : Request) → P y z → z ≡ f y) → asked r ws ≡ formed_if t (call_of (f x) ws)
 unfolding formed_if
-formed_no c e = rw e refl
+asked_of f true x ws o (Some z) e h g = ap (λ z. call_of z ws) (g x z (rw e at h))
+asked_of f true x ws o None e h g = absurd (rw e at h)
+asked_of f false x ws o r e h g = ap (λ r. asked r ws) (rw e at h)
 
 and_swap : (p n t f : Bool) → p && n && (t && f) ≡ p && t && n && f
 and_swap false n t f = refl
@@ -60,67 +76,69 @@ module _ (s : Schema) where
     abbrev m : ℕ
     m = nat_of (get_or ws 3 𝟘)
 
-    row_judged : (c : Call) → allowed s c ≡ in_table s a b && row_fits (table_of s a) m (drop 4 ws)
-        → judged s (formed_if (natural (get_or ws 1 𝟘) && natural (get_or ws 2 𝟘) && natural (get_or ws 3 𝟘)) c) ≡ formed_if (gives_row s ws) c
+    abbrev row : Request → Type 0
+    row x = allowed s (call_of x ws) ≡ in_table s a b && row_fits (table_of s a) m (drop 4 ws)
+
+    row_judged : (x : Request) → row x → formed_if (gives_row s ws) (call_of x ws) ≡ judged s (formed_if (natural (get_or ws 1 𝟘) && natural (get_or ws 2 𝟘) && natural (get_or ws 3 𝟘)) (call_of x ws))
     unfolding gives_row names_row
-    row_judged c e =
+    row_judged x e =
         let p : Bool = natural (get_or ws 1 𝟘) && natural (get_or ws 2 𝟘) in
-        judged_if (p && natural (get_or ws 3 𝟘)) c
-        ∙ ap (λ t. formed_if t c) (ap (λ t. p && natural (get_or ws 3 𝟘) && t) e ∙ and_swap p (natural (get_or ws 3 𝟘)) (in_table s a b) (row_fits (table_of s a) m (drop 4 ws)))
+        sym (judged_if (p && natural (get_or ws 3 𝟘)) (call_of x ws)
+        ∙ ap (λ t. formed_if t (call_of x ws)) (ap (λ t. p && natural (get_or ws 3 𝟘) && t) e ∙ and_swap p (natural (get_or ws 3 𝟘)) (in_table s a b) (row_fits (table_of s a) m (drop 4 ws))))
 
-    pub insert_is : judged s (parsed 1 ws) ≡ formed_if (gives_row s ws) (insert (nat_of (get_or ws 1 𝟘)) (nat_of (get_or ws 2 𝟘)) (nat_of (get_or ws 3 𝟘)) (drop 4 ws))
-    unfolding parsed allowed
-    insert_is = row_judged (insert a b m (drop 4 ws)) refl
+    -- the call of a request whose words pass the test of its kind
+    pub insert_is : formed_if (gives_row s ws) (call_of (Insert (row_place ws)) ws) ≡ judged s (parsed 1 ws)
+    unfolding parsed allowed call_of
+    insert_is = row_judged (Insert (row_place ws)) refl
 
-    pub update_is : judged s (parsed 2 ws) ≡ formed_if (gives_row s ws) (update (nat_of (get_or ws 1 𝟘)) (nat_of (get_or ws 2 𝟘)) (nat_of (get_or ws 3 𝟘)) (drop 4 ws))
-    unfolding parsed allowed
-    update_is = row_judged (update a b m (drop 4 ws)) refl
+    pub update_is : formed_if (gives_row s ws) (call_of (Update (row_place ws)) ws) ≡ judged s (parsed 2 ws)
+    unfolding parsed allowed call_of
+    update_is = row_judged (Update (row_place ws)) refl
 
-    pub delete_is : judged s (parsed 3 ws) ≡ formed_if (names_row s ws && all_zero (drop 3 ws)) (delete (nat_of (get_or ws 1 𝟘)) (nat_of (get_or ws 2 𝟘)))
-    unfolding parsed allowed names_row
+    pub delete_is : formed_if (names_row s ws && all_zero (drop 3 ws)) (call_of (Delete (row_place ws)) ws) ≡ judged s (parsed 3 ws)
+    unfolding parsed allowed names_row call_of
     delete_is =
         let p : Bool = natural (get_or ws 1 𝟘) && natural (get_or ws 2 𝟘) in
-        judged_if (p && all_zero (drop 3 ws)) (delete a b) ∙ ap (λ t. formed_if t (delete a b)) (and_last p (all_zero (drop 3 ws)) (in_table s a b))
+        sym (judged_if (p && all_zero (drop 3 ws)) (delete a b) ∙ ap (λ t. formed_if t (delete a b)) (and_last p (all_zero (drop 3 ws)) (in_table s a b)))
 
-    pub release_is : judged s (parsed 6 ws) ≡ formed_if (names_level ws) (release (nat_of (get_or ws 1 𝟘)))
-    unfolding parsed allowed names_level
-    release_is = judged_if (natural (get_or ws 1 𝟘) && all_zero (drop 2 ws)) (release a)
+    pub release_is : formed_if (names_level ws) (call_of (Release (nat_of (get_or ws 1 𝟘))) ws) ≡ judged s (parsed 6 ws)
+    unfolding parsed allowed names_level call_of
+    release_is = sym (judged_if (natural (get_or ws 1 𝟘) && all_zero (drop 2 ws)) (release a))
 
-    pub rollback_to_is : judged s (parsed 7 ws) ≡ formed_if (names_level ws) (rollback_to (nat_of (get_or ws 1 𝟘)))
-    unfolding parsed allowed names_level
-    rollback_to_is = judged_if (natural (get_or ws 1 𝟘) && all_zero (drop 2 ws)) (rollback_to a)
+    pub rollback_to_is : formed_if (names_level ws) (call_of (RollbackTo (nat_of (get_or ws 1 𝟘))) ws) ≡ judged s (parsed 7 ws)
+    unfolding parsed allowed names_level call_of
+    rollback_to_is = sym (judged_if (natural (get_or ws 1 𝟘) && all_zero (drop 2 ws)) (rollback_to a))
 
-    -- the calls of kinds 10 and 11
-    pub delete_where_is : judged s (parsed 10 ws) ≡ formed_if (natural_place ws && all_zero (drop 5 ws) && allowed s (call_of (DeleteWhere a b) ws)) (call_of (DeleteWhere a b) ws)
+    pub delete_where_is : formed_if (natural_place ws && all_zero (drop 5 ws) && allowed s (call_of (DeleteWhere (column_place ws)) ws)) (call_of (DeleteWhere (column_place ws)) ws) ≡ judged s (parsed 10 ws)
     unfolding parsed natural_place call_of
-    delete_where_is = judged_if (natural_place ws && all_zero (drop 5 ws)) (call_of (DeleteWhere a b) ws)
+    delete_where_is = sym (judged_if (natural_place ws && all_zero (drop 5 ws)) (call_of (DeleteWhere (column_place ws)) ws))
 
-    pub update_where_is : judged s (parsed 11 ws) ≡ formed_if (natural_place ws && natural (get_or ws 5 𝟘) && all_zero (drop 7 ws) && allowed s (call_of (UpdateWhere a b) ws)) (call_of (UpdateWhere a b) ws)
+    pub update_where_is : formed_if (natural_place ws && natural (get_or ws 5 𝟘) && all_zero (drop 7 ws) && allowed s (call_of (UpdateWhere (column_place ws)) ws)) (call_of (UpdateWhere (column_place ws)) ws) ≡ judged s (parsed 11 ws)
     unfolding parsed natural_place call_of
-    update_where_is = judged_if (natural_place ws && natural (get_or ws 5 𝟘) && all_zero (drop 7 ws)) (call_of (UpdateWhere a b) ws)
+    update_where_is = sym (judged_if (natural_place ws && natural (get_or ws 5 𝟘) && all_zero (drop 7 ws)) (call_of (UpdateWhere (column_place ws)) ws))
 
-    bare_judged : (c : Call) → allowed s c ≡ true → judged s (formed_if (all_zero (drop 1 ws)) c) ≡ formed_if (all_zero (drop 1 ws)) c
+    bare_judged : (c : Call) → allowed s c ≡ true → formed_if (all_zero (drop 1 ws)) c ≡ judged s (formed_if (all_zero (drop 1 ws)) c)
     unfolding formed_if
-    bare_judged c e = judged_if (all_zero (drop 1 ws)) c ∙ ap (λ t. formed_if t c) (and_on (all_zero (drop 1 ws)) e)
+    bare_judged c e = sym (judged_if (all_zero (drop 1 ws)) c ∙ ap (λ t. formed_if t c) (and_on (all_zero (drop 1 ws)) e))
       where
         and_on : (t : Bool) {u : Bool} → u ≡ true → t && u ≡ t
         and_on true h = h
         and_on false h = refl
 
-    pub begin_is : judged s (parsed 4 ws) ≡ formed_if (all_zero (drop 1 ws)) begin
-    unfolding parsed allowed
+    pub begin_is : formed_if (all_zero (drop 1 ws)) (call_of Begin ws) ≡ judged s (parsed 4 ws)
+    unfolding parsed allowed call_of
     begin_is = bare_judged begin refl
 
-    pub savepoint_is : judged s (parsed 5 ws) ≡ formed_if (all_zero (drop 1 ws)) savepoint
-    unfolding parsed allowed
+    pub savepoint_is : formed_if (all_zero (drop 1 ws)) (call_of Savepoint ws) ≡ judged s (parsed 5 ws)
+    unfolding parsed allowed call_of
     savepoint_is = bare_judged savepoint refl
 
-    pub rollback_is : judged s (parsed 8 ws) ≡ formed_if (all_zero (drop 1 ws)) rollback
-    unfolding parsed allowed
+    pub rollback_is : formed_if (all_zero (drop 1 ws)) (call_of Rollback ws) ≡ judged s (parsed 8 ws)
+    unfolding parsed allowed call_of
     rollback_is = bare_judged rollback refl
 
-    pub commit_is : judged s (parsed 9 ws) ≡ formed_if (all_zero (drop 1 ws)) commit
-    unfolding parsed allowed
+    pub commit_is : formed_if (all_zero (drop 1 ws)) (call_of Commit ws) ≡ judged s (parsed 9 ws)
+    unfolding parsed allowed call_of
     commit_is = bare_judged commit refl
 
     -- the kind is n
@@ -147,14 +165,6 @@ module _ (s : Schema) where
     other_is (suc k) h = sym (ap (judged s) (high_kind (suc k) (h (omega arith))) ∙ judged_malformed)
 
     -- ---- the words
-
-    pub gives_not : names_row s ws ≡ false → false ≡ gives_row s ws
-    unfolding gives_row
-    gives_not e = rw e refl
-
-    pub gives_is : names_row s ws ≡ true → natural (get_or ws 3 𝟘) && row_fits (table_of s (nat_of (get_or ws 1 𝟘))) (nat_of (get_or ws 3 𝟘)) (drop 4 ws) ≡ gives_row s ws
-    unfolding gives_row
-    gives_is e = rw e refl
 
     pub names_table : names_row s ws ≡ true → nat_of (get_or ws 1 𝟘) < length s.tables
     unfolding names_row in_table

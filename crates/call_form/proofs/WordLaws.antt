@@ -5,7 +5,6 @@ use mathlib.Core.Bool.{Bool, true, false, ◌&&◌}
 use mathlib.Core.List.{List}
 use Prim.Native.Nat.{ℕ, zero, suc, ◌+◌, ◌/◌, ◌^◌, ◌≤◌, ◌<◌}
 use native.Mathlib.Nat.{div-eq_of_lt, le-div_iff_mul-le}
-use native.Mathlib.Numerals.{add-one}
 use native.Mathlib.Omega.{arith}
 use borrow.Author.Tests.{ltb-true, ltb-false, ne_eqb}
 use lib.Dec.{eqb, ltb, eqb-suc-zero, eqb-zero-suc}
@@ -14,6 +13,7 @@ use lib.ListN.{length, get_or, drop, drop_of_length-le}
 use lib.Pow.{pow_pos}
 use lib.Seq.{drop-cons}
 use Rattle.schema.specs.Bytes.{bit}
+use Rattle.schema.specs.Ranges.{all_from}
 use Rattle.rules.specs.Lists.{𝟘}
 use Rattle.rules.specs.Values.{same_word, same_words}
 use Rattle.rules.specs.Rows.{held}
@@ -45,26 +45,27 @@ unfolding value_fits
 fits_is true v = zero_sym v
 fits_is false v = same_refl v
 
--- the values from column i on
-unfoldable pub values_from : ℕ → ℕ → List ℤ → Bool
-values_from m i ws = same_words (drop (4 + i) ws) (held m i (drop (4 + i) ws))
+module _ (ws : List ℤ) (m : ℕ) where
+  -- the value of column i is 0 where it is NULL
+  abbrev pub fits_at : ℕ → Bool
+  fits_at i = value_fits (bit i m) (get_or ws (4 + i) 𝟘)
 
-module _ (ws : List ℤ) (m i : ℕ) where
-  pub values_none : length ws ≤ 4 + i → values_from m i ws ≡ true
+  -- the values from column i on
+  values_from : ℕ → Bool
+  values_from i = same_words (drop (4 + i) ws) (held m i (drop (4 + i) ws))
+
+  values_more : (i : ℕ) → 4 + i < length ws → fits_at i && values_from (suc i) ≡ values_from i
   unfolding values_from same_words held
-  values_none h = rw (drop_of_length-le ws h) refl
+  values_more i h =
+      let e : 4 + suc i ≡ suc (4 + i) = omega arith in
+      rw e (sym (ap (λ l. same_words l (held m i l)) (drop-cons ws (4 + i) 𝟘 h)
+      ∙ ap (λ t. t && same_words (drop (suc (4 + i)) ws) (held m (suc i) (drop (suc (4 + i)) ws))) (fits_is (bit i m) (get_or ws (4 + i) 𝟘))))
 
-  module _ (h : 4 + i < length ws) where
-    values_more : values_from m i ws ≡ value_fits (bit i m) (get_or ws (4 + i) 𝟘) && values_from m (i + 1) ws
-    unfolding values_from same_words held
-    values_more =
-        let e : 4 + (i + 1) ≡ suc (4 + i) = omega arith in
-        rw (e, add-one i)
-        (ap (λ l. same_words l (held m i l)) (drop-cons ws (4 + i) 𝟘 h)
-        ∙ ap (λ t. t && same_words (drop (suc (4 + i)) ws) (held m (suc i) (drop (suc (4 + i)) ws))) (fits_is (bit i m) (get_or ws (4 + i) 𝟘)))
+  values_all : (n i : ℕ) → 4 + i + n ≡ length ws → all_from fits_at n i ≡ values_from i
+  unfolding values_from same_words held all_from
+  values_all zero i h = let l : length ws ≤ 4 + i = omega arith in rw (drop_of_length-le ws l) refl
+  values_all (suc n) i h = ap (λ t. fits_at i && t) (values_all n (suc i) (omega arith)) ∙ values_more i (omega arith)
 
-    pub values_stop : value_fits (bit i m) (get_or ws (4 + i) 𝟘) ≡ false → values_from m i ws ≡ false
-    values_stop e = values_more ∙ ap (λ t. t && values_from m (i + 1) ws) e
-
-    pub values_go : value_fits (bit i m) (get_or ws (4 + i) 𝟘) ≡ true → values_from m i ws ≡ values_from m (i + 1) ws
-    values_go e = values_more ∙ ap (λ t. t && values_from m (i + 1) ws) e
+  pub values_are : length ws ≡ 12 → all_from fits_at 8 0 ≡ same_words (drop 4 ws) (held m 0 (drop 4 ws))
+  unfolding values_from
+  values_are h = values_all 8 0 (omega arith)

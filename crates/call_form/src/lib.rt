@@ -2,35 +2,48 @@
 
 #![tactic(auto)]
 
-ghost use Rattle.std.specs.Prelude.{◌≡◌, ◌+◌, ◌^◌, ◌<◌, pos, ltb, length, get_or, drop};
+ghost use Rattle.std.specs.Prelude.{◌≡◌, ◌+◌, ◌^◌, ◌<◌, pos, ltb, length, get_or, drop, MatchResult};
+ghost use Rattle.std.specs.Bool.{then_some};
 ghost use Rattle.schema.specs.Bytes.{bit};
 ghost use Rattle.schema.specs.Records.{table_of};
 ghost use Rattle.schema.specs.Fields.{schema_of};
-ghost use Rattle.schema.specs.Check.{check_schema};
 ghost use Rattle.rules.specs.Values.{nat_of, all_zero, same_words};
 ghost use Rattle.rules.specs.Rows.{held};
-ghost use Rattle.rules.specs.Calls.{release, rollback_to, formed_if, parsed, parse, row_fits, in_columns, value_fits, level_number, allowed};
-ghost use Rattle.call_form.specs.Requests.{call_of, judged, TwelveWords, names_row, gives_row, names_level, natural_place};
+ghost use Rattle.rules.specs.Calls.{malformed, parsed, parse, row_fits, in_columns, value_fits, level_number, allowed};
+ghost use Rattle.call_form.specs.Requests.{call_of, asked, judged, row_place, column_place, TwelveWords, names_row, gives_row, names_level, natural_place};
 
-use schema::SchemaAnswer;
+use fields::Schema;
+use rules::Refusal;
+
+// A row of a table, by their numbers.
+#[derive(Clone, Copy)]
+pub struct RowPlace {
+    pub table: usize,
+    pub row: usize,
+}
+
+// A column of a table, by their numbers.
+#[derive(Clone, Copy)]
+pub struct ColumnPlace {
+    pub table: usize,
+    pub column: usize,
+}
 
 // What a call asks for: tables, rows, columns and levels by number; masks and values stay in the call's words.
 #[derive(Clone, Copy)]
 pub enum Request {
-    // Refusal 4.
-    Malformed,
-    Insert(usize, usize),
-    Update(usize, usize),
-    Delete(usize, usize),
+    Insert(RowPlace),
+    Update(RowPlace),
+    Delete(RowPlace),
     Begin,
     Savepoint,
     Release(usize),
     RollbackTo(usize),
     Rollback,
     Commit,
-    // A table and the column that is searched.
-    DeleteWhere(usize, usize),
-    UpdateWhere(usize, usize),
+    // The column that is searched.
+    DeleteWhere(ColumnPlace),
+    UpdateWhere(ColumnPlace),
 }
 
 // ---- the words of a call
@@ -48,10 +61,7 @@ fn value_fits(call: &[i64], m: usize, i: usize, k: usize) -> bool
     requires { (length call.now ≡ 12) × ((i < 8) × (k < 12)) }
     ensures { result ≡ value_fits (bit i m) (get_or call.now k (pos 0)) }
 {
-    if numbers::bit_of(i, m) {
-        return words::is_zero_at(call, k);
-    }
-    true
+    !numbers::bit_of(i, m) || words::is_zero_at(call, k)
 }
 
 // Whether every value of a NULL column is 0.
@@ -59,48 +69,51 @@ fn values_fit(call: &[i64], m: usize) -> bool
     requires { length call.now ≡ 12 }
     ensures { result ≡ same_words (drop 4 call.now) (held m 0 (drop 4 call.now)) }
 {
-    let mut i = 0;
-    while i < 8 {
-        if !value_fits(call, m, i, 4 + i) {
-            return false;
-        }
-        i += 1;
-    }
-    true
+    (0..8).all(|i| value_fits(call, m, i, 4 + i))
 }
 
 // Whether mask and values are a row for table t.
-fn row_fits(schema: &[u8], call: &[i64], t: usize) -> bool
-    requires { TwelveWords schema.now call.now × (t < length (schema_of schema.now).tables) }
-    ensures { result ≡ row_fits (table_of (schema_of schema.now) t) (nat_of (get_or call.now 3 (pos 0))) (drop 4 call.now) }
+fn row_fits(schema: &Schema, call: &[i64], t: usize) -> bool
+    requires { TwelveWords schema.now.bytes call.now × (t < length (schema_of schema.now.bytes).tables) }
+    ensures { result ≡ row_fits (table_of (schema_of schema.now.bytes) t) (nat_of (get_or call.now 3 (pos 0))) (drop 4 call.now) }
 {
-    let columns = fields::columns(schema, t);
+    let columns = schema.columns(t);
     let m = words::nat_at(call, 3);
     is_mask(m, columns) & words::all_zero_from(call, 4 + columns) & values_fit(call, m)
 }
 
-// Whether words 1 and 2 are a table and a row of it.
-fn names_row(schema: &[u8], call: &[i64]) -> bool
-    requires { TwelveWords schema.now call.now }
-    ensures { result ≡ names_row (schema_of schema.now) call.now }
+// The row that words 1 and 2 name, if there is one.
+fn named_row(schema: &Schema, call: &[i64]) -> Option<RowPlace>
+    requires { TwelveWords schema.now.bytes call.now }
+    ensures { result ≡ then_some (names_row (schema_of schema.now.bytes) call.now) (row_place call.now) }
 {
-    let t = words::nat_at(call, 1);
-    let r = words::nat_at(call, 2);
-    words::is_natural_at(call, 1)
+    let table = words::nat_at(call, 1);
+    let row = words::nat_at(call, 2);
+    let is_there = words::is_natural_at(call, 1)
         & words::is_natural_at(call, 2)
-        & fields::is_in_table(schema, t, r)
+        & schema.is_in_table(table, row);
+    is_there.then_some(RowPlace { table, row })
 }
 
-// Whether words 1 and 2 are a table and a row of it, and the others a mask and values for it.
-fn gives_row(schema: &[u8], call: &[i64]) -> bool
-    requires { TwelveWords schema.now call.now }
-    ensures { result ≡ gives_row (schema_of schema.now) call.now }
+// The row that words 1 and 2 name, if the others are a mask and values for it.
+fn given_row(schema: &Schema, call: &[i64]) -> Option<RowPlace>
+    requires { TwelveWords schema.now.bytes call.now }
+    ensures { result ≡ then_some (gives_row (schema_of schema.now.bytes) call.now) (row_place call.now) }
 {
-    if !names_row(schema, call) {
-        return false;
+    let place = named_row(schema, call)?;
+    let fits = words::is_natural_at(call, 3) & row_fits(schema, call, place.table);
+    fits.then_some(place)
+}
+
+// The table and the column that words 1 and 2 name.
+fn named_column(call: &[i64]) -> ColumnPlace
+    requires { length call.now ≡ 12 }
+    ensures { result ≡ column_place call.now }
+{
+    ColumnPlace {
+        table: words::nat_at(call, 1),
+        column: words::nat_at(call, 2),
     }
-    let t = words::nat_at(call, 1);
-    words::is_natural_at(call, 3) & row_fits(schema, call, t)
 }
 
 // Whether words 1, 2 and 3 are not negative.
@@ -112,34 +125,30 @@ fn is_natural_place(call: &[i64]) -> bool
 }
 
 // Whether there is a table t that has a column c.
-fn is_in_columns(schema: &[u8], t: usize, c: usize) -> bool
-    requires { check_schema schema.now ≡ SchemaAnswer.Accepted }
-    ensures { result ≡ in_columns (schema_of schema.now) t c }
+fn is_in_columns(schema: &Schema, t: usize, c: usize) -> bool
+    ensures { result ≡ in_columns (schema_of schema.now.bytes) t c }
 {
-    if fields::table_count(schema) <= t {
-        return false;
-    }
-    c < fields::columns(schema, t)
+    t < schema.table_count() && c < schema.columns(t)
 }
 
-// Whether column c of table t can be searched, by words 3 and 4.
-fn delete_where_fits(schema: &[u8], call: &[i64], t: usize, c: usize) -> bool
-    requires { TwelveWords schema.now call.now }
-    ensures { result ≡ allowed (schema_of schema.now) (call_of (Request.DeleteWhere t c) call.now) }
+// Whether a column can be searched, by words 3 and 4.
+fn delete_where_fits(schema: &Schema, call: &[i64], place: ColumnPlace) -> bool
+    requires { TwelveWords schema.now.bytes call.now }
+    ensures { result ≡ allowed (schema_of schema.now.bytes) (call_of (Request.DeleteWhere place) call.now) }
 {
     let m = words::nat_at(call, 3);
-    is_in_columns(schema, t, c) & (m < 2) & value_fits(call, m, 0, 4)
+    is_in_columns(schema, place.table, place.column) & (m < 2) & value_fits(call, m, 0, 4)
 }
 
-// Whether column c of table t can be searched, by words 3 and 4, and another be set, by words 3, 5 and 6.
-fn update_where_fits(schema: &[u8], call: &[i64], t: usize, c: usize) -> bool
-    requires { TwelveWords schema.now call.now }
-    ensures { result ≡ allowed (schema_of schema.now) (call_of (Request.UpdateWhere t c) call.now) }
+// Whether a column can be searched, by words 3 and 4, and another be set, by words 3, 5 and 6.
+fn update_where_fits(schema: &Schema, call: &[i64], place: ColumnPlace) -> bool
+    requires { TwelveWords schema.now.bytes call.now }
+    ensures { result ≡ allowed (schema_of schema.now.bytes) (call_of (Request.UpdateWhere place) call.now) }
 {
     let m = words::nat_at(call, 3);
     let d = words::nat_at(call, 5);
-    is_in_columns(schema, t, c)
-        & is_in_columns(schema, t, d)
+    is_in_columns(schema, place.table, place.column)
+        & is_in_columns(schema, place.table, d)
         & (m < 4)
         & value_fits(call, m, 0, 4)
         & value_fits(call, m, 1, 6)
@@ -149,150 +158,91 @@ fn update_where_fits(schema: &[u8], call: &[i64], t: usize, c: usize) -> bool
 fn is_level(a: usize) -> bool
     ensures { result ≡ level_number a }
 {
-    (1 <= a) & (a <= 9)
+    (1..=9).contains(&a)
 }
 
-// Whether word 1 is a level, and the words past it are 0.
-fn names_level(call: &[i64]) -> bool
+// The level that word 1 names, if the words past it are 0.
+fn named_level(call: &[i64]) -> Option<usize>
     requires { length call.now ≡ 12 }
-    ensures { result ≡ names_level call.now }
+    ensures { result ≡ then_some (names_level call.now) (nat_of (get_or call.now 1 (pos 0))) }
 {
     let a = words::nat_at(call, 1);
-    words::is_natural_at(call, 1) & words::all_zero_from(call, 2) & is_level(a)
+    let is_named = words::is_natural_at(call, 1) & words::all_zero_from(call, 2) & is_level(a);
+    is_named.then_some(a)
 }
 
 // ---- the kinds of calls
 
-// Kind 1: insert.
-fn read_insert(schema: &[u8], call: &[i64]) -> Request
-    requires { TwelveWords schema.now call.now }
-    ensures { call_of result call.now ≡ judged (schema_of schema.now) (parsed 1 call.now) }
-{
-    if !gives_row(schema, call) {
-        return Request::Malformed;
-    }
-    Request::Insert(words::nat_at(call, 1), words::nat_at(call, 2))
-}
-
-// Kind 2: update.
-fn read_update(schema: &[u8], call: &[i64]) -> Request
-    requires { TwelveWords schema.now call.now }
-    ensures { call_of result call.now ≡ judged (schema_of schema.now) (parsed 2 call.now) }
-{
-    if !gives_row(schema, call) {
-        return Request::Malformed;
-    }
-    Request::Update(words::nat_at(call, 1), words::nat_at(call, 2))
-}
-
 // Kind 3: delete.
-fn read_delete(schema: &[u8], call: &[i64]) -> Request
-    requires { TwelveWords schema.now call.now }
-    ensures { call_of result call.now ≡ judged (schema_of schema.now) (parsed 3 call.now) }
+fn read_delete(schema: &Schema, call: &[i64]) -> Option<Request>
+    requires { TwelveWords schema.now.bytes call.now }
+    ensures { asked result call.now ≡ judged (schema_of schema.now.bytes) (parsed 3 call.now) }
 {
-    if !(names_row(schema, call) & words::all_zero_from(call, 3)) {
-        return Request::Malformed;
-    }
-    Request::Delete(words::nat_at(call, 1), words::nat_at(call, 2))
-}
-
-// Kind 6: release.
-fn read_release(call: &[i64]) -> Request
-    requires { length call.now ≡ 12 }
-    ensures { call_of result call.now ≡ formed_if (names_level call.now) (release (nat_of (get_or call.now 1 (pos 0)))) }
-{
-    if !names_level(call) {
-        return Request::Malformed;
-    }
-    Request::Release(words::nat_at(call, 1))
-}
-
-// Kind 7: rollback to a level.
-fn read_rollback_to(call: &[i64]) -> Request
-    requires { length call.now ≡ 12 }
-    ensures { call_of result call.now ≡ formed_if (names_level call.now) (rollback_to (nat_of (get_or call.now 1 (pos 0)))) }
-{
-    if !names_level(call) {
-        return Request::Malformed;
-    }
-    Request::RollbackTo(words::nat_at(call, 1))
+    let place = named_row(schema, call)?;
+    words::all_zero_from(call, 3).then_some(Request::Delete(place))
 }
 
 // Kind 10: delete every row found.
-fn read_delete_where(schema: &[u8], call: &[i64]) -> Request
-    requires { TwelveWords schema.now call.now }
-    ensures { call_of result call.now ≡ judged (schema_of schema.now) (parsed 10 call.now) }
+fn read_delete_where(schema: &Schema, call: &[i64]) -> Option<Request>
+    requires { TwelveWords schema.now.bytes call.now }
+    ensures { asked result call.now ≡ judged (schema_of schema.now.bytes) (parsed 10 call.now) }
 {
-    let t = words::nat_at(call, 1);
-    let c = words::nat_at(call, 2);
-    if !(is_natural_place(call)
+    let place = named_column(call);
+    let fits = is_natural_place(call)
         & words::all_zero_from(call, 5)
-        & delete_where_fits(schema, call, t, c))
-    {
-        return Request::Malformed;
-    }
-    Request::DeleteWhere(t, c)
+        & delete_where_fits(schema, call, place);
+    fits.then_some(Request::DeleteWhere(place))
 }
 
 // Kind 11: update every row found.
-fn read_update_where(schema: &[u8], call: &[i64]) -> Request
-    requires { TwelveWords schema.now call.now }
-    ensures { call_of result call.now ≡ judged (schema_of schema.now) (parsed 11 call.now) }
+fn read_update_where(schema: &Schema, call: &[i64]) -> Option<Request>
+    requires { TwelveWords schema.now.bytes call.now }
+    ensures { asked result call.now ≡ judged (schema_of schema.now.bytes) (parsed 11 call.now) }
 {
-    let t = words::nat_at(call, 1);
-    let c = words::nat_at(call, 2);
-    if !(is_natural_place(call)
+    let place = named_column(call);
+    let fits = is_natural_place(call)
         & words::is_natural_at(call, 5)
         & words::all_zero_from(call, 7)
-        & update_where_fits(schema, call, t, c))
-    {
-        return Request::Malformed;
-    }
-    Request::UpdateWhere(t, c)
+        & update_where_fits(schema, call, place);
+    fits.then_some(Request::UpdateWhere(place))
 }
 
 // Kinds 4, 5, 8 and 9: the words past the kind are 0.
-fn read_bare(call: &[i64], request: Request) -> Request
-    ensures { call_of result call.now ≡ formed_if (all_zero (drop 1 call.now)) (call_of request call.now) }
+fn read_bare(call: &[i64], request: Request) -> Option<Request>
+    ensures { result ≡ then_some (all_zero (drop 1 call.now)) request }
 {
-    if !words::all_zero_from(call, 1) {
-        return Request::Malformed;
-    }
-    request
+    words::all_zero_from(call, 1).then_some(request)
 }
 
-// A call of a given kind; one that is none of eleven is refused.
-fn read_kind(schema: &[u8], call: &[i64], kind: usize) -> Request
-    requires { TwelveWords schema.now call.now }
-    ensures { call_of result call.now ≡ judged (schema_of schema.now) (parsed kind call.now) }
+// A call of a given kind, by the paper's number; one that is none of eleven is refused. An enum of the kinds would list the
+// eleven once more, since `Request` has them.
+fn read_kind(schema: &Schema, call: &[i64], kind: usize) -> Option<Request>
+    requires { TwelveWords schema.now.bytes call.now }
+    ensures { asked result call.now ≡ judged (schema_of schema.now.bytes) (parsed kind call.now) }
 {
     match kind {
-        1 => read_insert(schema, call),
-        2 => read_update(schema, call),
+        1 => given_row(schema, call).map(Request::Insert),
+        2 => given_row(schema, call).map(Request::Update),
         3 => read_delete(schema, call),
         4 => read_bare(call, Request::Begin),
         5 => read_bare(call, Request::Savepoint),
-        6 => read_release(call),
-        7 => read_rollback_to(call),
+        6 => named_level(call).map(Request::Release),
+        7 => named_level(call).map(Request::RollbackTo),
         8 => read_bare(call, Request::Rollback),
         9 => read_bare(call, Request::Commit),
         10 => read_delete_where(schema, call),
         11 => read_update_where(schema, call),
-        _ => Request::Malformed,
+        _ => None,
     }
 }
 
-// What a call asks for; `Malformed` where refusal 4 refuses it.
-pub fn read_call(schema: &[u8], call: &[i64]) -> Request
-    requires { check_schema schema.now ≡ SchemaAnswer.Accepted }
-    ensures { call_of result call.now ≡ judged (schema_of schema.now) (parse call.now) }
+// What a call asks for, or refusal 4.
+pub fn read_call(schema: &Schema, call: &[i64]) -> Result<Request, Refusal>
+    ensures { MatchResult result (λ r. call_of r call.now ≡ judged (schema_of schema.now.bytes) (parse call.now)) (λ e. (e ≡ Refusal.BadCall) × (malformed ≡ judged (schema_of schema.now.bytes) (parse call.now))) }
 {
-    if call.len() != 12 {
-        return Request::Malformed;
-    }
-    if !words::is_natural_at(call, 0) {
-        return Request::Malformed;
+    if call.len() != 12 || !words::is_natural_at(call, 0) {
+        return Err(Refusal::BadCall);
     }
     let kind = words::nat_at(call, 0);
-    read_kind(schema, call, kind)
+    read_kind(schema, call, kind).ok_or(Refusal::BadCall)
 }

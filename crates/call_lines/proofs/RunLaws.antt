@@ -2,14 +2,14 @@
 -- Assumes nothing.
 use mathlib.Core.Path.{◌≡◌, refl, sym, ◌∙◌, ap, ap₂, subst}
 use mathlib.Core.List.{List, [], ◌∷◌}
-use Prim.Native.Nat.{ℕ, zero, suc, ◌+◌, ◌*◌, ◌-◌, ◌/◌, ◌%◌, ◌≤◌, ◌<◌}
+use Prim.Native.Nat.{ℕ, zero, suc, ◌+◌, ◌*◌, ◌-◌, ◌/◌, ◌%◌, ◌≤◌, ◌<◌, min}
 use native.Mathlib.Omega.{arith}
 use native.Mathlib.Numerals.{add-one}
 use borrow.Author.Tests.{le-leb, lt-leb}
 use lib.IntN.{ℤ}
 use lib.ListN.{length}
 use Rattle.schema.specs.Ranges.{list_from}
-use Rattle.rules.specs.declared.Answer.{Answer}
+use Rattle.rules.specs.Refusals.{Answer}
 use Rattle.rules.specs.Lists.{flat}
 use Rattle.rules.specs.Step.{Logged, run_all}
 use Rattle.rules.specs.Area.{AreaTurn}
@@ -36,13 +36,9 @@ call_short bs i h = rw (lt-leb (i * 96 + 96) (length bs) h) refl
 
 -- ---- how many there are
 
-pub count_even : (n : ℕ) → n % 96 ≡ 0 → n / 96 ≡ call_count n
+pub count_up : (n : ℕ) → n / 96 + min 1 (n % 96) ≡ call_count n
 unfolding call_count
-count_even n h = omega (arith, h)
-
-pub count_odd : (n : ℕ) → (n % 96 ≡ 0 → ⊥) → n / 96 + 1 ≡ call_count n
-unfolding call_count
-count_odd n h = omega (arith, h)
+count_up n = omega arith
 
 pub count_below : (n i : ℕ) → i < call_count n → i * 96 ≤ n
 unfolding call_count
@@ -118,6 +114,6 @@ module _ (schema bytes : List ℕ) where
   run_all_lem r = run_from_lem (call_count (length bytes)) 0 r
 
 -- of a run, the area and the tally
-pub ran_after : (schema bytes : List ℕ) (area : List ℤ) (p : Progress) (out : List ℕ) {next : Run} → next ≡ ran schema bytes (run_at area p out) → (next.area, next.tally) ≡ after schema bytes area p.tally
+pub ran_after : (schema bytes : List ℕ) (area : List ℤ) (p : Progress) {next : Run} → next ≡ ran schema bytes (run_at area p) → (next.area, next.tally) ≡ after schema bytes area p.tally
 unfolding ran after
-ran_after schema bytes area p out e = ap (λ r. (r.area, r.tally)) e
+ran_after schema bytes area p e = ap (λ r. (r.area, r.tally)) e

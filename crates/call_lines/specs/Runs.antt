@@ -8,7 +8,7 @@ use Rattle.rules.specs.Area.{AreaTurn}
 use Rattle.rules.specs.Engine.{call_on, run_on}
 use Rattle.decoding.specs.CallBytes.{words_at}
 use Rattle.run_tally.specs.declared.Tally.{Tally}
-use Rattle.lines.specs.Text.{put}
+use Rattle.lines.specs.Text.{put, held}
 use Rattle.reports.specs.declared.Progress.{Progress}
 use Rattle.reports.specs.Reports.{line_of, counted_in}
 
@@ -43,9 +43,9 @@ pub record Run : Type 0 where
   pub tally : Tally
   pub text : ℕ × List ℕ
 
--- a run by its area, progress and buffer
-abbrev pub run_at : List ℤ → Progress → List ℕ → Run
-run_at area p out = record { area = area; tally = p.tally; text = (p.used, out) }
+-- a run by its area and progress
+abbrev pub run_at : List ℤ → Progress → Run
+run_at area p = record { area = area; tally = p.tally; text = held p.text }
 
 -- the run after one call
 unfoldable pub ran_call : List ℕ → List ℤ → Run → Run

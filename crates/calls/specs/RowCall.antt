@@ -1,13 +1,25 @@
--- What an insertion and an update require.
+-- What the kinds that change one row require, and the statement that each is.
 -- Assumes nothing.
-use Rattle.std.specs.Prelude.{◌≡◌, List, ℕ, ◌<◌, ℤ, length}
-use Rattle.schema.specs.Records.{table_of}
+use Rattle.std.specs.Prelude.{Bool, true, false, not, List, ℕ, ◌<◌, ℤ, length}
+use Rattle.schema.specs.Records.{Schema, table_of}
 use Rattle.schema.specs.Fields.{schema_of}
+use Rattle.rules.specs.Rows.{Row, row_at, live}
+use Rattle.rules.specs.Book.{Book}
+use Rattle.rules.specs.Statement.{Turn, row_statement}
 use Rattle.bridge.specs.Ready.{Sound}
+use Rattle.call_form.specs.declared.RowPlace.{RowPlace}
 
--- an insertion or an update of row r of table t, in a sound area
-pub record RowCall (b : List ℕ) (a c : List ℤ) (t r : ℕ) : Type 0 where
+-- the row is in its table, in a sound area
+pub record RowCall (b : List ℕ) (a : List ℤ) (p : RowPlace) : Type 0 where
   pub sound : Sound b a
-  pub table : t < length (schema_of b).tables
-  pub row : r < (table_of (schema_of b) t).rows
-  pub size : length c ≡ 12
+  pub table : p.table < length (schema_of b).tables
+  pub row : p.row < (table_of (schema_of b) p.table).rows
+
+-- a row is live, or is not, as is asked
+abbrev pub stands_as : Bool → Bool → Bool
+stands_as true v = v
+stands_as false v = not v
+
+-- a row becomes an image as one statement, if it stands as is asked
+abbrev pub placed_statement : Schema → RowPlace → Bool → Row → Book → Turn
+placed_statement s p asked new b = row_statement s (stands_as asked (live (row_at p.table p.row b.work.tabs))) p.table p.row new b

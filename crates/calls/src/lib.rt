@@ -7,54 +7,46 @@ ghost use Rattle.std.specs.Prelude.{◌≡◌, ◌<◌, pos, length, get_or, dro
 ghost use Rattle.schema.specs.Records.{table_of};
 ghost use Rattle.schema.specs.Fields.{schema_of};
 ghost use Rattle.rules.specs.Values.{nat_of};
+ghost use Rattle.rules.specs.Rows.{live_image};
 ghost use Rattle.rules.specs.Calls;
 ghost use Rattle.rules.specs.Step.{act};
 ghost use Rattle.rules.specs.Area.{view, on_words};
 ghost use Rattle.bridge.specs.Ready.{Sound};
 ghost use Rattle.area.specs.Spare.{Spare};
 ghost use Rattle.call_form.specs.Requests.{call_of, judged};
-ghost use Rattle.calls.specs.RowCall.{RowCall};
+ghost use Rattle.calls.specs.RowCall.{RowCall, placed_statement};
 ghost use Rattle.calls.specs.FoundCall.{cell_of, FoundCall};
 
-use call_form::Request;
+use call_form::{ColumnPlace, Request, RowPlace};
+use fields::Schema;
 use found::{Cell, Given};
 use rules::{Answer, Refusal};
 
-// Kind 1: insert.
-fn insert(schema: &[u8], area: &mut [i64], call: &[i64], t: usize, r: usize, clean: bool) -> Answer
-    requires { RowCall schema.now area.old call.now t r × Spare clean (schema_of schema.now) area.old }
-    ensures { (result, area.new) ≡ on_words (act (schema_of schema.now) (Calls.insert t r (nat_of (get_or call.now 3 (pos 0))) (drop 4 call.now)) (view (schema_of schema.now) area.old)) }
+// The image that the call's words give a row of table t.
+fn given_image(schema: &Schema, call: &[i64], t: usize) -> [i64; 9]
+    requires { (t < length (schema_of schema.now.bytes).tables) × (length call.now ≡ 12) }
+    ensures { result ≡ live_image (table_of (schema_of schema.now.bytes) t).columns (nat_of (get_or call.now 3 (pos 0))) (drop 4 call.now) }
 {
-    if change_parts::is_live_row(schema, area, t, r) {
-        return Answer::Refused(Refusal::RowState);
-    }
-    let columns = fields::columns(schema, t);
-    let image = images::live_image(columns, call);
-    statements::change_row(schema, area, t, r, image, clean)
+    let columns = schema.columns(t);
+    images::live_image(columns, call)
 }
 
-// Kind 2: update.
-fn update(schema: &[u8], area: &mut [i64], call: &[i64], t: usize, r: usize, clean: bool) -> Answer
-    requires { RowCall schema.now area.old call.now t r × Spare clean (schema_of schema.now) area.old }
-    ensures { (result, area.new) ≡ on_words (act (schema_of schema.now) (Calls.update t r (nat_of (get_or call.now 3 (pos 0))) (drop 4 call.now)) (view (schema_of schema.now) area.old)) }
+// Kinds 1, 2 and 3: changes a row to an image, if it is live or not as `live` says.
+fn change_row(
+    schema: &Schema,
+    area: &mut [i64],
+    place: RowPlace,
+    live: bool,
+    image: [i64; 9],
+    clean: bool,
+) -> Answer
+    requires { RowCall schema.now.bytes area.old place × Spare clean (schema_of schema.now.bytes) area.old }
+    ensures { (result, area.new) ≡ on_words (placed_statement (schema_of schema.now.bytes) place live image (view (schema_of schema.now.bytes) area.old)) }
 {
-    if !change_parts::is_live_row(schema, area, t, r) {
-        return Answer::Refused(Refusal::RowState);
+    if change_parts::is_live_row(schema, area, place.table, place.row) != live {
+        return Err(Refusal::RowState);
     }
-    let columns = fields::columns(schema, t);
-    let image = images::live_image(columns, call);
-    statements::change_row(schema, area, t, r, image, clean)
-}
-
-// Kind 3: delete.
-fn delete(schema: &[u8], area: &mut [i64], t: usize, r: usize, clean: bool) -> Answer
-    requires { Sound schema.now area.old × ((t < length (schema_of schema.now).tables) × ((r < (table_of (schema_of schema.now) t).rows) × Spare clean (schema_of schema.now) area.old)) }
-    ensures { (result, area.new) ≡ on_words (act (schema_of schema.now) (Calls.delete t r) (view (schema_of schema.now) area.old)) }
-{
-    if !change_parts::is_live_row(schema, area, t, r) {
-        return Answer::Refused(Refusal::RowState);
-    }
-    statements::change_row(schema, area, t, r, [0i64; 9], clean)
+    statements::change_row(schema, area, place.table, place.row, image, clean)
 }
 
 // Column c, with NULL by bit i of word 3, and the value of word k.
@@ -62,73 +54,73 @@ fn cell_of(call: &[i64], c: usize, i: usize, k: usize) -> Cell
     requires { (length call.now ≡ 12) × ((i < 8) × (k < 12)) }
     ensures { result ≡ cell_of call.now c i k }
 {
-    let m = words::nat_at(call, 3);
-    let null = numbers::bit_of(i, m);
-    let v = call[k];
+    let null = numbers::bit_of(i, words::nat_at(call, 3));
     Cell {
         column: c,
-        null: null,
-        value: v,
+        value: if null { None } else { Some(call[k]) },
     }
 }
 
 // Kind 10: delete every row found.
 fn delete_where(
-    schema: &[u8],
+    schema: &Schema,
     area: &mut [i64],
     call: &[i64],
-    t: usize,
-    c: usize,
+    place: ColumnPlace,
     clean: bool,
 ) -> Answer
-    requires { FoundCall schema.now area.old call.now t c × Spare clean (schema_of schema.now) area.old }
-    ensures { (result, area.new) ≡ on_words (act (schema_of schema.now) (Calls.delete_where t c (nat_of (get_or call.now 3 (pos 0))) (get_or call.now 4 (pos 0))) (view (schema_of schema.now) area.old)) }
+    requires { FoundCall schema.now.bytes area.old call.now place × Spare clean (schema_of schema.now.bytes) area.old }
+    ensures { (result, area.new) ≡ on_words (act (schema_of schema.now.bytes) (Calls.delete_where place.table place.column (nat_of (get_or call.now 3 (pos 0))) (get_or call.now 4 (pos 0))) (view (schema_of schema.now.bytes) area.old)) }
 {
-    let sought = cell_of(call, c, 0, 4);
-    statements::change_found(schema, area, t, sought, Given::Deleted, clean)
+    let sought = cell_of(call, place.column, 0, 4);
+    statements::change_found(schema, area, place.table, sought, Given::Deleted, clean)
 }
 
 // Kind 11: update every row found.
 fn update_where(
-    schema: &[u8],
+    schema: &Schema,
     area: &mut [i64],
     call: &[i64],
-    t: usize,
-    c: usize,
+    place: ColumnPlace,
     clean: bool,
 ) -> Answer
-    requires { FoundCall schema.now area.old call.now t c × ((nat_of (get_or call.now 5 (pos 0)) < (table_of (schema_of schema.now) t).columns) × Spare clean (schema_of schema.now) area.old) }
-    ensures { (result, area.new) ≡ on_words (act (schema_of schema.now) (Calls.update_where t c (nat_of (get_or call.now 3 (pos 0))) (get_or call.now 4 (pos 0)) (nat_of (get_or call.now 5 (pos 0))) (get_or call.now 6 (pos 0))) (view (schema_of schema.now) area.old)) }
+    requires { FoundCall schema.now.bytes area.old call.now place × ((nat_of (get_or call.now 5 (pos 0)) < (table_of (schema_of schema.now.bytes) place.table).columns) × Spare clean (schema_of schema.now.bytes) area.old) }
+    ensures { (result, area.new) ≡ on_words (act (schema_of schema.now.bytes) (Calls.update_where place.table place.column (nat_of (get_or call.now 3 (pos 0))) (get_or call.now 4 (pos 0)) (nat_of (get_or call.now 5 (pos 0))) (get_or call.now 6 (pos 0))) (view (schema_of schema.now.bytes) area.old)) }
 {
-    let sought = cell_of(call, c, 0, 4);
+    let sought = cell_of(call, place.column, 0, 4);
     let d = words::nat_at(call, 5);
     let cell = cell_of(call, d, 1, 6);
-    statements::change_found(schema, area, t, sought, Given::Set(cell), clean)
+    statements::change_found(schema, area, place.table, sought, Given::Set(cell), clean)
 }
 
 // Carries out a call that was read.
 pub fn carry_out(
-    schema: &[u8],
+    schema: &Schema,
     area: &mut [i64],
     call: &[i64],
     request: Request,
     clean: bool,
 ) -> Answer
-    requires { Sound schema.now area.old × ((call_of request call.now ≡ judged (schema_of schema.now) (Calls.parse call.now)) × Spare clean (schema_of schema.now) area.old) }
-    ensures { (result, area.new) ≡ on_words (act (schema_of schema.now) (call_of request call.now) (view (schema_of schema.now) area.old)) }
+    requires { Sound schema.now.bytes area.old × ((call_of request call.now ≡ judged (schema_of schema.now.bytes) (Calls.parse call.now)) × Spare clean (schema_of schema.now.bytes) area.old) }
+    ensures { (result, area.new) ≡ on_words (act (schema_of schema.now.bytes) (call_of request call.now) (view (schema_of schema.now.bytes) area.old)) }
 {
     match request {
-        Request::Malformed => Answer::Refused(Refusal::BadCall),
-        Request::Insert(t, r) => insert(schema, area, call, t, r, clean),
-        Request::Update(t, r) => update(schema, area, call, t, r, clean),
-        Request::Delete(t, r) => delete(schema, area, t, r, clean),
+        Request::Insert(place) => {
+            let image = given_image(schema, call, place.table);
+            change_row(schema, area, place, false, image, clean)
+        }
+        Request::Update(place) => {
+            let image = given_image(schema, call, place.table);
+            change_row(schema, area, place, true, image, clean)
+        }
+        Request::Delete(place) => change_row(schema, area, place, true, [0i64; 9], clean),
         Request::Begin => transactions::begin(schema, area),
         Request::Savepoint => transactions::savepoint(schema, area),
         Request::Release(a) => transactions::release(schema, area, a, clean),
         Request::RollbackTo(a) => transactions::rollback_to(schema, area, a),
         Request::Rollback => transactions::rollback(schema, area, clean),
         Request::Commit => transactions::commit(schema, area, clean),
-        Request::DeleteWhere(t, c) => delete_where(schema, area, call, t, c, clean),
-        Request::UpdateWhere(t, c) => update_where(schema, area, call, t, c, clean),
+        Request::DeleteWhere(place) => delete_where(schema, area, call, place, clean),
+        Request::UpdateWhere(place) => update_where(schema, area, call, place, clean),
     }
 }

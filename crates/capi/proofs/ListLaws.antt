@@ -5,14 +5,15 @@ use mathlib.Core.List.{List, [], ◌∷◌, ◌++◌}
 use Prim.Native.Nat.{ℕ, suc, ◌+◌, ◌≤◌, ◌<◌}
 use native.Mathlib.Numerals.{add-one}
 use native.Mathlib.Omega.{arith}
-use lib.IntN.{ℤ}
+use lib.IntN.{ℤ, pos}
 use lib.ListN.{length, get_or, set, take, drop, length-append, length-drop}
 use lib.Seq.{length-take-le, take-suc, take-length, drop-cons, append_snoc, set_at}
 use Rattle.schema.specs.Fields.{schema_of}
 use Rattle.rules.specs.declared.Orphan.{Orphan}
 use Rattle.rules.specs.declared.Listed.{Listed}
-use Rattle.rules.specs.declared.Verdict.{Verdict}
-use Rattle.rules.specs.declared.Verdict.TheVariants.{Pass, Fail}
+use Rattle.rules.specs.declared.Refusal.{Refusal}
+use Rattle.rules.specs.Refusals.{Verdict, number}
+use Rattle.std.specs.Prelude.{Ok, Err}
 use Rattle.rules.specs.OrphanList.{orphan_total, orphan_list, list_verdict, listed, list_answer, lent_after, list_orphans}
 use Rattle.bridge.specs.Fit.{work_of}
 use Rattle.laws.proofs.AllOrphans.{listed_length}
@@ -66,8 +67,8 @@ module _ (bs : List ℕ) (ws : List ℤ) where
 
   listed_low : (v : Verdict) → (listed v total).count ≤ total
   unfolding listed
-  listed_low Pass = omega arith
-  listed_low (Fail r) = omega arith
+  listed_low (Ok tt) = omega arith
+  listed_low (Err r) = omega arith
 
   pub count_low : (room : ℕ) {r : Listed} → r ≡ list_answer bs ws room → r.count ≤ length all
   unfolding list_answer work_of
@@ -78,5 +79,11 @@ module _ (bs : List ℕ) (ws : List ℤ) where
   list_left ys r e = ap₂ (λ (x : Listed) (l : List Orphan). (x, l)) e (go (list_verdict bs ws (length ys)) e)
     where
       go : (v : Verdict) → r ≡ listed v total → laid all ys r.count ≡ lent_after v all ys
-      go Pass h = ap (laid all ys) (ap (λ (r : Listed). r.count) h ∙ sym all_many) ∙ ap (λ (l : List Orphan). l ++ drop (length all) ys) (take-length all)
-      go (Fail c) h = ap (laid all ys) (ap (λ (r : Listed). r.count) h)
+      go (Ok tt) h = ap (laid all ys) (ap (λ (r : Listed). r.count) h ∙ sym all_many) ∙ ap (λ (l : List Orphan). l ++ drop (length all) ys) (take-length all)
+      go (Err c) h = ap (laid all ys) (ap (λ (r : Listed). r.count) h)
+
+  -- refused, it is what it was
+  pub list_refused : (ys : List Orphan) {code : ℤ} (r : Refusal) → code ≡ pos (number r) → record { code = pos (number r); count = 0 } ≡ list_answer bs ws (length ys) → (record { code = code; count = 0 }, ys) ≡ list_orphans bs ws ys
+  list_refused ys r e p =
+      let answer : Listed = record { code = pos (number r); count = 0 } in
+      rw e (ap (λ (l : List Orphan). (answer, l)) (laid_zero all ys) ∙ list_left ys answer p)

@@ -6,8 +6,7 @@ use Prim.Native.Nat.{ℕ}
 use native.Mathlib.Omega.{arith}
 use lib.IntN.{ℤ, pos}
 use lib.ListN.{length, get_or}
-use Rattle.rules.specs.declared.Answer.{Answer}
-use Rattle.rules.specs.Refusals.{shown}
+use Rattle.rules.specs.Refusals.{Answer, shown}
 use Rattle.rules.specs.Area.{AreaTurn}
 use Rattle.rules.specs.Engine.{make_fresh}
 use Rattle.capi.specs.Shown.{fresh_code}

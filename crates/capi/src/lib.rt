@@ -12,7 +12,7 @@ ghost use Rattle.capi.specs.Shown.{fresh_code};
 
 use rules::{Listed, Numbered, Orphan};
 
-// The answer to a call.
+// The answer to a call. C reads all three fields, so that it is no Result.
 #[repr(C)]
 #[derive(Clone, Copy)]
 pub struct CallAnswer {
@@ -21,18 +21,11 @@ pub struct CallAnswer {
     pub net: i64,
 }
 
-// A byte as a signed number.
-fn signed(x: u8) -> i64
-    ensures { result ≡ pos x }
-{
-    x as i64
-}
-
 // The number of what the check of schema bytes finds: 0 or 1.
 pub fn hoofbook_check_schema(bytes: &[u8]) -> i64
     ensures { result ≡ pos (Check.number_of (Check.check_schema bytes.now)) }
 {
-    signed(schema_check::number(schema_check::check_schema(bytes)))
+    i64::from(schema_check::number(schema_check::check_schema(bytes)))
 }
 
 // The length of an area for a schema; 0 where the schema is refused.
@@ -66,14 +59,23 @@ pub fn hoofbook_call(schema: &[u8], area: &mut [i64], call: &[i64]) -> CallAnswe
 pub fn hoofbook_list_orphans(schema: &[u8], area: &[i64], list: &mut [Orphan]) -> Listed
     ensures { (result, list.new) ≡ list_orphans schema.now area.now list.old }
 {
-    let mut plan = orphan_plan::plan_list(schema, area, list.len());
-    let mut i = 0;
-    while i < plan.answer.count {
+    let mut plan = match orphan_plan::plan_list(schema, area, list.len()) {
+        Err(refusal) => {
+            return Listed {
+                code: answers::refusal_number(refusal),
+                count: 0,
+            };
+        }
+        Ok(plan) => plan,
+    };
+    for i in 0..plan.total {
         plan = orphan_plan::next_planned(schema, area, plan);
         list[i] = plan.at.orphan;
-        i += 1;
     }
-    plan.answer
+    Listed {
+        code: 0,
+        count: plan.total,
+    }
 }
 
 // Answers how much one delete can touch, or refuses by 1, 3 or 10.

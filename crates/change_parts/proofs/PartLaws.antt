@@ -14,7 +14,7 @@ use Rattle.schema.specs.Records.{ForeignKey, Schema, no_key, table_of}
 use Rattle.schema.specs.Fields.{schema_of}
 use Rattle.schema.proofs.MaskLaws.{bit_none}
 use Rattle.rules.specs.declared.Refusal.TheVariants.{JournalFull, BrokenKey, NotNull, NotUnique, BadWindow}
-use Rattle.rules.specs.declared.Verdict.TheVariants.{Pass, Fail}
+use Rattle.std.specs.Prelude.{Ok, Err}
 use Rattle.rules.specs.Refusals.{failing}
 use Rattle.rules.specs.Lists.{𝟘, any}
 use Rattle.rules.specs.Rows.{Row, Tables, row_at, image, deleted_image, live}
@@ -53,35 +53,35 @@ module _ (b : List ℕ) (new : Row) (t : ℕ) (old : Row) where
 -- ---- the checks
 
 module _ (s : Schema) (t r : ℕ) (new : Row) (w : Work) where
-  pub admits_full : eqb (length w.spare) 0 ≡ true → Fail JournalFull ≡ admits s t r new w
+  pub admits_full : eqb (length w.spare) 0 ≡ true → Err JournalFull ≡ admits s t r new w
   unfolding admits failing
   admits_full e = sym (rw e refl)
 
-  pub admits_broken : eqb (length w.spare) 0 ≡ false → any (uses_broken new t (row_at t r w.tabs)) s.keys ≡ true → Fail BrokenKey ≡ admits s t r new w
+  pub admits_broken : eqb (length w.spare) 0 ≡ false → any (uses_broken new t (row_at t r w.tabs)) s.keys ≡ true → Err BrokenKey ≡ admits s t r new w
   unfolding admits failing
   admits_broken room e = sym (rw (room, e) refl)
 
   module _ (room : eqb (length w.spare) 0 ≡ false) (none : any (uses_broken new t (row_at t r w.tabs)) s.keys ≡ false) where
-    pub admits_deleted : live new ≡ false → Pass ≡ admits s t r new w
+    pub admits_deleted : live new ≡ false → Ok tt ≡ admits s t r new w
     unfolding admits failing
     admits_deleted e = sym (rw (room, none, e) refl)
 
     module _ (on : live new ≡ true) where
-      pub admits_null : not_null_broken (table_of s t) new ≡ true → Fail NotNull ≡ admits s t r new w
+      pub admits_null : not_null_broken (table_of s t) new ≡ true → Err NotNull ≡ admits s t r new w
       unfolding admits failing
       admits_null e = sym (rw (room, none, on, e) refl)
 
       module _ (full : not_null_broken (table_of s t) new ≡ false) where
-        pub admits_unique : unique_broken (table_of s t) r new (get_or w.tabs t []) ≡ true → Fail NotUnique ≡ admits s t r new w
+        pub admits_unique : unique_broken (table_of s t) r new (get_or w.tabs t []) ≡ true → Err NotUnique ≡ admits s t r new w
         unfolding admits failing
         admits_unique e = sym (rw (room, none, on, full, e) refl)
 
         module _ (apart : unique_broken (table_of s t) r new (get_or w.tabs t []) ≡ false) where
-          pub admits_window : any (bad_window t r new (get_or w.tabs t [])) s.keys ≡ true → Fail BadWindow ≡ admits s t r new w
+          pub admits_window : any (bad_window t r new (get_or w.tabs t [])) s.keys ≡ true → Err BadWindow ≡ admits s t r new w
           unfolding admits failing
           admits_window e = sym (rw (room, none, on, full, apart, e) refl)
 
-          pub admits_pass : any (bad_window t r new (get_or w.tabs t [])) s.keys ≡ false → Pass ≡ admits s t r new w
+          pub admits_pass : any (bad_window t r new (get_or w.tabs t [])) s.keys ≡ false → Ok tt ≡ admits s t r new w
           unfolding admits failing
           admits_pass e = sym (rw (room, none, on, full, apart, e) refl)
 

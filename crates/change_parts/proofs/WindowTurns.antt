@@ -13,15 +13,14 @@ use lib.IntN.{ℤ}
 use lib.ListN.{length, get_or}
 use Rattle.schema.specs.declared.Action.{Action}
 use Rattle.schema.specs.declared.Action.TheVariants.{NoAction, Restrict}
-use Rattle.schema.specs.declared.SchemaAnswer.TheVariants.{Accepted}
+use Rattle.schema.specs.Check.{Accepted, check_schema}
 use Rattle.schema.specs.Records.{ForeignKey, Schema, parent_key, table_of, key_of}
 use Rattle.schema.specs.Fields.{schema_of}
-use Rattle.schema.specs.Check.{check_schema}
 use Rattle.schema.proofs.RangeLaws.{and_left, and_right}
 use Rattle.schema.proofs.FieldLaws.{window_actions}
 use Rattle.rules.specs.declared.Refusal.TheVariants.{Restricted}
-use Rattle.rules.specs.declared.Verdict.{Verdict}
-use Rattle.rules.specs.declared.Verdict.TheVariants.{Pass, Fail}
+use Rattle.rules.specs.Refusals.{Verdict}
+use Rattle.std.specs.Prelude.{Ok, Err}
 use Rattle.rules.specs.Lists.{any, up_from}
 use Rattle.rules.specs.Rows.{Row, Tables, row_at, image, live}
 use Rattle.rules.specs.Keys.{full_key, serves, takes, fires}
@@ -89,11 +88,11 @@ module _ (change : Change) (s : Schema) (new : Row) (k : ForeignKey) (old : Row)
         by false e = e
 
 -- ---- what RESTRICT says
-pub restrict_fail : {t : Bool} → t ≡ true → Fail Restricted ≡ restricted t
+pub restrict_fail : {t : Bool} → t ≡ true → Err Restricted ≡ restricted t
 unfolding restricted
 restrict_fail e = sym (ap restricted e)
 
-pub restrict_pass : {t : Bool} → t ≡ false → Pass ≡ restricted t
+pub restrict_pass : {t : Bool} → t ≡ false → Ok tt ≡ restricted t
 unfolding restricted
 restrict_pass e = sym (ap restricted e)
 
@@ -124,12 +123,12 @@ module _ (b : List ℕ) (a : List ℤ) (r : Ready b a) (k : ForeignKey) (t : ℕ
   abbrev W : Work
   W = work_of (schema_of b) a
 
-  pub turn_off : fires new t old k ≡ false → WindowTurn S new t old k W Pass
+  pub turn_off : fires new t old k ≡ false → WindowTurn S new t old k W (Ok tt)
   unfolding key_turn given result_of
   turn_off e = record { turn = λ change. rw e refl }
 
   module _ (on : fires new t old k ≡ true) where
-    pub turn_none : action_of new k ≡ NoAction → WindowTurn S new t old k W Pass
+    pub turn_none : action_of new k ≡ NoAction → WindowTurn S new t old k W (Ok tt)
     unfolding key_turn given result_of
     turn_none e = record { turn = λ change. rw on (rows_idle change S new k old e (up_from 0 (table_of S k.child).rows) W) }
 

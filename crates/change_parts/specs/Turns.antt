@@ -1,14 +1,13 @@
 -- What an action makes of a child row, and what the walk over child rows is given.
 -- Assumes nothing.
-use Rattle.std.specs.Prelude.{◌≡◌, Bool, true, false, not, List, [], ℕ, ℤ}
+use Rattle.std.specs.Prelude.{◌≡◌, Bool, true, false, not, List, [], ℕ, ℤ, Ok, Err}
 use Rattle.schema.specs.declared.Action.{Action}
 use Rattle.schema.specs.declared.Action.TheVariants.{NoAction, Restrict, SetNull, SetDefault, Cascade}
 use Rattle.schema.specs.Records.{ForeignKey, Schema, parent_key, key_of}
 use Rattle.schema.specs.Fields.{schema_of}
 use Rattle.rules.specs.Rows.{Row, deleted_image, live}
 use Rattle.rules.specs.declared.Refusal.TheVariants.{Restricted}
-use Rattle.rules.specs.declared.Verdict.{Verdict}
-use Rattle.rules.specs.declared.Verdict.TheVariants.{Pass, Fail}
+use Rattle.rules.specs.Refusals.{Verdict}
 use Rattle.rules.specs.Book.{Work}
 use Rattle.rules.specs.Change.{Change, child_image, action_of, key_turn}
 use Rattle.bridge.specs.Ready.{result_of}
@@ -58,8 +57,8 @@ pub record Unserved (k : ForeignKey) (vs : List ℤ) (new : Row) : Type 0 where
 
 -- RESTRICT refuses where the test holds
 unfoldable pub restricted : Bool → Verdict
-restricted true = Fail Restricted
-restricted false = Pass
+restricted true = Err Restricted
+restricted false = Ok tt
 
 -- the turn of foreign key k, which has a window, ends in this verdict and changes no row, whatever a row change is
 pub record WindowTurn (s : Schema) (new : Row) (t : ℕ) (old : Row) (k : ForeignKey) (w : Work) (o : Verdict) : Type 0 where

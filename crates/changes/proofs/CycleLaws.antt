@@ -3,6 +3,7 @@
 use mathlib.Core.Path.{◌≡◌, refl, sym, ap, ap₂, ◌∙◌}
 use mathlib.Core.Bool.{Bool, true, false, not, ◌&&◌, ◌||◌, true≢false}
 use mathlib.Core.List.{List, [], ◌∷◌}
+use mathlib.Core.Logic.{◌⊎◌, inl, inr}
 use Prim.Native.Nat.{ℕ, zero, suc, ◌+◌, ◌-◌, ◌≤◌, ◌<◌}
 use native.Mathlib.Numerals.{add-one}
 use native.Mathlib.Omega.{arith}
@@ -15,8 +16,8 @@ use Rattle.schema.specs.declared.Action.TheVariants.{NoAction, Restrict, SetNull
 use Rattle.schema.specs.Records.{ForeignKey, Schema, parent_key, no_key, table_of, key_of}
 use Rattle.rules.specs.declared.Refusal.{Refusal}
 use Rattle.rules.specs.declared.Refusal.TheVariants.{TooDeep, Restricted}
-use Rattle.rules.specs.declared.Verdict.{Verdict}
-use Rattle.rules.specs.declared.Verdict.TheVariants.{Pass, Fail}
+use Rattle.rules.specs.Refusals.{Verdict}
+use Rattle.std.specs.Prelude.{Ok, Err}
 use Rattle.rules.specs.Lists.{any, up_from}
 use Rattle.rules.specs.Rows.{Row, Tables, row_at, image, live, null_at}
 use Rattle.rules.specs.Keys.{full_key, serves, same_parent_key, fires}
@@ -27,7 +28,7 @@ use Rattle.bridge.specs.Ready.{Placed, result_of}
 use Rattle.schema.proofs.RangeLaws.{and_right}
 use Rattle.bridge.proofs.Tests.{fails}
 use Rattle.bridge.proofs.Undo.{spared}
-use Rattle.bridge.proofs.TurnLaws.{turns_start, turns_none, turns_past, turns_done, turns_refused}
+use Rattle.bridge.proofs.TurnLaws.{turns_start, turns_past, turns_done, turns_refused}
 use Rattle.bridge.proofs.ValueLaws.{takes_values, children_values}
 use Rattle.bridge.proofs.KeyLaws.{serves_same, get_padded}
 use Rattle.table_keys.specs.Touched.{touches, whole_at}
@@ -48,10 +49,6 @@ module _ (rec : Change) (s : Schema) (new : Row) (k : ForeignKey) (vs : List ℤ
   unfolding children_by_values
   rows_start = turns_start (turn_by_values rec s new k vs)
 
-  pub rows_none : (n j : ℕ) (w : Work) → n ≤ j → children_by_values rec s new k vs (up_from j (n - j)) w ≡ result_of Pass w
-  unfolding children_by_values
-  rows_none = turns_none (turn_by_values rec s new k vs)
-
   row_idle : (j : ℕ) (w : Work) → child_has_key k vs w.tabs j ≡ false → turn_by_values rec s new k vs j w ≡ go w
   unfolding turn_by_values given
   row_idle j w e = rw e refl
@@ -65,16 +62,16 @@ module _ (rec : Change) (s : Schema) (new : Row) (k : ForeignKey) (vs : List ℤ
       turn_is : turn_by_values rec s new k vs i w ≡ result_of o v
       turn_is = row_taken i w on ∙ ap (λ (u : ℕ). taken rec s new (action_of new k) k i (image u i w.tabs) w) (sym et) ∙ sym e
 
-      pub rows_done : o ≡ Pass → children_by_values rec s new k vs (up_from j (n - j)) w ≡ children_by_values rec s new k vs (up_from (i + 1) (n - (i + 1))) v
+      pub rows_done : o ≡ Ok tt → children_by_values rec s new k vs (up_from j (n - j)) w ≡ children_by_values rec s new k vs (up_from (i + 1) (n - (i + 1))) v
       unfolding children_by_values
       rows_done = turns_done (turn_by_values rec s new k vs) n j i w low (omega (arith, high)) (λ m p q. row_idle m w (idle m p q)) high o v turn_is
 
-      pub rows_refused : {c : Refusal} → o ≡ Fail c → children_by_values rec s new k vs (up_from j (n - j)) w ≡ result_of (Fail c) v
+      pub rows_refused : {c : Refusal} → o ≡ Err c → children_by_values rec s new k vs (up_from j (n - j)) w ≡ result_of (Err c) v
       unfolding children_by_values
       rows_refused = turns_refused (turn_by_values rec s new k vs) n j i w low (omega (arith, high)) (λ m p q. row_idle m w (idle m p q)) high o v turn_is
 
   -- none of the rest is taken
-  pub rows_past : (n j i : ℕ) (w : Work) → j ≤ i → i ≤ n → n ≤ i → ((m : ℕ) → j ≤ m → m < i → child_has_key k vs w.tabs m ≡ false) → children_by_values rec s new k vs (up_from j (n - j)) w ≡ result_of Pass w
+  pub rows_past : (n j i : ℕ) (w : Work) → j ≤ i → i ≤ n → n ≤ i → ((m : ℕ) → j ≤ m → m < i → child_has_key k vs w.tabs m ≡ false) → children_by_values rec s new k vs (up_from j (n - j)) w ≡ result_of (Ok tt) w
   unfolding children_by_values
   rows_past n j i w l h p idle = turns_past (turn_by_values rec s new k vs) n j i w l h (λ m a b. row_idle m w (idle m a b)) p
 
@@ -86,7 +83,7 @@ drop_past (suc k) [] h = refl
 drop_past (suc k) (x ∷ l) h = drop_past k l (omega arith)
 
 module _ (rec : Change) (s : Schema) (new : Row) (t : ℕ) (old : Row) where
-  pub keys_none : (k : ℕ) (w : Work) → length s.keys ≤ k → actions rec s new t old (drop k s.keys) w ≡ result_of Pass w
+  pub keys_none : (k : ℕ) (w : Work) → length s.keys ≤ k → actions rec s new t old (drop k s.keys) w ≡ result_of (Ok tt) w
   unfolding actions result_of
   keys_none k w h = ap (λ (l : List ForeignKey). actions rec s new t old l w) (drop_past k s.keys h)
 
@@ -95,11 +92,11 @@ module _ (rec : Change) (s : Schema) (new : Row) (t : ℕ) (old : Row) where
     unfolding actions
     keys_step = ap (λ (l : List ForeignKey). actions rec s new t old l w) (drop-cons s.keys k no_key l ∙ ap (λ (i : ℕ). key_of s k ∷ drop i s.keys) (sym (add-one k)))
 
-    pub keys_done : o ≡ Pass → actions rec s new t old (drop k s.keys) w ≡ actions rec s new t old (drop (k + 1) s.keys) v
+    pub keys_done : o ≡ Ok tt → actions rec s new t old (drop k s.keys) w ≡ actions rec s new t old (drop (k + 1) s.keys) v
     unfolding then result_of
     keys_done p = keys_step ∙ rw (← e, p) refl
 
-    pub keys_refused : {c : Refusal} → o ≡ Fail c → actions rec s new t old (drop k s.keys) w ≡ result_of (Fail c) v
+    pub keys_refused : {c : Refusal} → o ≡ Err c → actions rec s new t old (drop k s.keys) w ≡ result_of (Err c) v
     unfolding then result_of
     keys_refused p = keys_step ∙ rw (← e, p) refl
 
@@ -117,7 +114,7 @@ not_whole_still new t old k h = go (eqb k.child t) (eqb k.parent t) k.broken h
     go false true false e = absurd (true≢false e)
 
 module _ (rec : Change) (s : Schema) (new : Row) (t : ℕ) (old : Row) (k : ForeignKey) (w : Work) where
-  pub key_off : fires new t old k ≡ false → result_of Pass w ≡ key_turn rec s new t old k w
+  pub key_off : fires new t old k ≡ false → result_of (Ok tt) w ≡ key_turn rec s new t old k w
   unfolding key_turn given result_of
   key_off e = sym (rw e refl)
 
@@ -159,11 +156,11 @@ row_unserved k vs new u tabs i t e h =
 
 -- ---- a taken row
 module _ (rec : Change) (s : Schema) (new : Row) (k : ForeignKey) (j : ℕ) (x : Row) (w : Work) (a : Action) (ea : a ≡ action_of new k) where
-  pub row_none : a ≡ NoAction → result_of Pass w ≡ taken rec s new (action_of new k) k j x w
+  pub row_none : a ≡ NoAction → result_of (Ok tt) w ≡ taken rec s new (action_of new k) k j x w
   unfolding taken result_of
   row_none e = rw (← ea, e) refl
 
-  pub row_restrict : a ≡ Restrict → serves k x new ≡ false → result_of (Fail Restricted) w ≡ taken rec s new (action_of new k) k j x w
+  pub row_restrict : a ≡ Restrict → serves k x new ≡ false → result_of (Err Restricted) w ≡ taken rec s new (action_of new k) k j x w
   unfolding taken given result_of
   row_restrict e h = rw (← ea, e, h) refl
 
@@ -175,21 +172,27 @@ module _ (rec : Change) (s : Schema) (new : Row) (k : ForeignKey) (j : ℕ) (x :
         ∙ sym q
         ∙ ap (λ (c : Action). taken rec s new c k j x w) (sym e ∙ ea)
 
-    pub row_null : a ≡ SetNull → y ≡ action_image a s k new x → rec t j y w ≡ taken rec s new (action_of new k) k j x w
+    row_null : a ≡ SetNull → y ≡ action_image a s k new x → rec t j y w ≡ taken rec s new (action_of new k) k j x w
     unfolding taken action_image deletes_child
     row_null = row_acted SetNull refl
 
-    pub row_default : a ≡ SetDefault → y ≡ action_image a s k new x → rec t j y w ≡ taken rec s new (action_of new k) k j x w
+    row_default : a ≡ SetDefault → y ≡ action_image a s k new x → rec t j y w ≡ taken rec s new (action_of new k) k j x w
     unfolding taken action_image deletes_child
     row_default = row_acted SetDefault refl
 
-    pub row_cascade : a ≡ Cascade → y ≡ action_image a s k new x → rec t j y w ≡ taken rec s new (action_of new k) k j x w
+    row_cascade : a ≡ Cascade → y ≡ action_image a s k new x → rec t j y w ≡ taken rec s new (action_of new k) k j x w
     unfolding taken
     row_cascade = row_acted Cascade (ap (λ (z : Row). rec k.child j z w) (cascade_image s k new x))
 
+    -- by one of the three
+    pub row_given : (a ≡ SetNull) ⊎ ((a ≡ SetDefault) ⊎ (a ≡ Cascade)) → y ≡ action_image a s k new x → rec t j y w ≡ taken rec s new (action_of new k) k j x w
+    row_given (inl e) g = row_null e g
+    row_given (inr (inl e)) g = row_default e g
+    row_given (inr (inr e)) g = row_cascade e g
+
 -- ---- a change
 module _ (s : Schema) (t r : ℕ) (new : Row) (w : Work) (left : ℕ) where
-  pub change_none : left ≡ 0 → result_of (Fail TooDeep) w ≡ change left s t r new w
+  pub change_none : left ≡ 0 → result_of (Err TooDeep) w ≡ change left s t r new w
   unfolding change result_of
   change_none e = sym (rw e refl)
 
@@ -198,13 +201,13 @@ module _ (s : Schema) (t r : ℕ) (new : Row) (w : Work) (left : ℕ) where
     unfolding change
     change_on = let level : left ≡ suc (left - 1) = omega arith in ap (λ (n : ℕ). change n s t r new w) level ∙ rw v refl
 
-    pub change_refused : {c : Refusal} → o ≡ Fail c → result_of (Fail c) w ≡ change left s t r new w
+    pub change_refused : {c : Refusal} → o ≡ Err c → result_of (Err c) w ≡ change left s t r new w
     unfolding admitted result_of
     change_refused e = sym (change_on ∙ rw e refl)
 
-    pub change_more : o ≡ Pass → actions (change (left - 1) s) s new t (image t r w.tabs) s.keys (write t r new w) ≡ change left s t r new w
+    pub change_more : o ≡ Ok tt → actions (change (left - 1) s) s new t (image t r w.tabs) s.keys (write t r new w) ≡ change left s t r new w
     unfolding admitted
     change_more e = sym (change_on ∙ rw e refl)
 
-    pub change_room : o ≡ Pass → 0 < length w.spare
+    pub change_room : o ≡ Ok tt → 0 < length w.spare
     change_room e = spared s t r new w (sym v ∙ e)

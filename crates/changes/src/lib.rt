@@ -18,6 +18,7 @@ ghost use Rattle.change_parts.specs.Turns.{FollowersOf, Unserved};
 ghost use Rattle.table_keys.specs.Touched.{KeysOf};
 
 use change_parts::Followers;
+use fields::Schema;
 use rules::{Refusal, Verdict};
 use schema::Action;
 use table_keys::TableKeys;
@@ -25,7 +26,7 @@ use table_keys::TableKeys;
 // Changes row r of table t to an image, with its actions.
 #[cycle(row_changes)]
 pub fn row_change(
-    schema: &[u8],
+    schema: &Schema,
     area: &mut [i64],
     tally: &mut [i64; 32],
     t: usize,
@@ -33,26 +34,22 @@ pub fn row_change(
     image: [i64; 9],
     left: usize,
 ) -> Verdict
-    requires { TalliedAt schema.now tally.old area.old t r }
-    ensures { (result_of result (work_of (schema_of schema.now) area.new) ≡ Change.change left (schema_of schema.now) t r image (work_of (schema_of schema.now) area.old)) × Follows (schema_of schema.now) tally.old area.old tally.new area.new }
+    requires { TalliedAt schema.now.bytes tally.old area.old t r }
+    ensures { (result_of result (work_of (schema_of schema.now.bytes) area.new) ≡ Change.change left (schema_of schema.now.bytes) t r image (work_of (schema_of schema.now.bytes) area.old)) × Follows (schema_of schema.now.bytes) tally.old area.old tally.new area.new }
 {
     if left == 0 {
-        return Verdict::Fail(Refusal::TooDeep);
+        return Err(Refusal::TooDeep);
     }
     let keys = table_keys::keys_of(schema, t);
-    match change_parts::admits(schema, area, keys, t, r, image) {
-        Verdict::Fail(c) => Verdict::Fail(c),
-        Verdict::Pass => {
-            let old = tally::write_tallied(schema, area, tally, keys, t, r, image);
-            key_walk(schema, area, tally, keys, t, old, image, left - 1)
-        }
-    }
+    change_parts::admits(schema, area, keys, t, r, image)?;
+    let old = tally::write_tallied(schema, area, tally, keys, t, r, image);
+    key_walk(schema, area, tally, keys, t, old, image, left - 1)
 }
 
 // The actions of all foreign keys, by number. `keys` has those that touch the table.
 #[cycle(row_changes)]
 fn key_walk(
-    schema: &[u8],
+    schema: &Schema,
     area: &mut [i64],
     tally: &mut [i64; 32],
     keys: TableKeys,
@@ -61,27 +58,19 @@ fn key_walk(
     new: [i64; 9],
     left: usize,
 ) -> Verdict
-    requires { Tallied schema.now tally.old area.old × KeysOf schema.now t keys }
-    ensures { (result_of result (work_of (schema_of schema.now) area.new) ≡ Change.actions (Change.change left (schema_of schema.now)) (schema_of schema.now) new t old (schema_of schema.now).keys (work_of (schema_of schema.now) area.old)) × Follows (schema_of schema.now) tally.old area.old tally.new area.new }
+    requires { Tallied schema.now.bytes tally.old area.old × KeysOf schema.now.bytes t keys }
+    ensures { (result_of result (work_of (schema_of schema.now.bytes) area.new) ≡ Change.actions (Change.change left (schema_of schema.now.bytes)) (schema_of schema.now.bytes) new t old (schema_of schema.now.bytes).keys (work_of (schema_of schema.now.bytes) area.old)) × Follows (schema_of schema.now.bytes) tally.old area.old tally.new area.new }
 {
-    let n = fields::key_count(schema);
-    let mut k = 0;
-    while k < n {
-        match key_turn(schema, area, tally, keys, t, old, new, k, left) {
-            Verdict::Pass => {}
-            Verdict::Fail(c) => {
-                return Verdict::Fail(c);
-            }
-        }
-        k += 1;
+    for k in 0..schema.key_count() {
+        key_turn(schema, area, tally, keys, t, old, new, k, left)?;
     }
-    Verdict::Pass
+    Ok(())
 }
 
 // The actions of foreign key k, if they follow.
 #[cycle(row_changes)]
 fn key_turn(
-    schema: &[u8],
+    schema: &Schema,
     area: &mut [i64],
     tally: &mut [i64; 32],
     keys: TableKeys,
@@ -91,20 +80,20 @@ fn key_turn(
     k: usize,
     left: usize,
 ) -> Verdict
-    requires { Tallied schema.now tally.old area.old × (KeysOf schema.now t keys × (k < length (schema_of schema.now).keys)) }
-    ensures { (result_of result (work_of (schema_of schema.now) area.new) ≡ Change.key_turn (Change.change left (schema_of schema.now)) (schema_of schema.now) new t old (key_of (schema_of schema.now) k) (work_of (schema_of schema.now) area.old)) × Follows (schema_of schema.now) tally.old area.old tally.new area.new }
+    requires { Tallied schema.now.bytes tally.old area.old × (KeysOf schema.now.bytes t keys × (k < length (schema_of schema.now.bytes).keys)) }
+    ensures { (result_of result (work_of (schema_of schema.now.bytes) area.new) ≡ Change.key_turn (Change.change left (schema_of schema.now.bytes)) (schema_of schema.now.bytes) new t old (key_of (schema_of schema.now.bytes) k) (work_of (schema_of schema.now.bytes) area.old)) × Follows (schema_of schema.now.bytes) tally.old area.old tally.new area.new }
 {
     if !numbers::bit_of(k, keys.whole) {
-        return Verdict::Pass;
+        return Ok(());
     }
     if numbers::bit_of(k, keys.windowed) {
         return change_parts::window_turn(schema, area, t, old, new, k);
     }
-    if fields::parent(schema, k) != t {
-        return Verdict::Pass;
+    if schema.parent(k) != t {
+        return Ok(());
     }
     if !rows::fires(schema, t, old, new, k) {
-        return Verdict::Pass;
+        return Ok(());
     }
     let f = change_parts::followers_of(schema, k, old, new);
     row_walk(schema, area, tally, k, f, new, left)
@@ -114,7 +103,7 @@ fn key_turn(
 // that has them does not map to the new one.
 #[cycle(row_changes)]
 fn row_walk(
-    schema: &[u8],
+    schema: &Schema,
     area: &mut [i64],
     tally: &mut [i64; 32],
     k: usize,
@@ -122,33 +111,22 @@ fn row_walk(
     new: [i64; 9],
     left: usize,
 ) -> Verdict
-    requires { Tallied schema.now tally.old area.old × (FollowersOf schema.now k new f × Unserved (key_of (schema_of schema.now) k) (sought_values f.key) new) }
-    ensures { (result_of result (work_of (schema_of schema.now) area.new) ≡ children_by_values (Change.change left (schema_of schema.now)) (schema_of schema.now) new (key_of (schema_of schema.now) k) (sought_values f.key) (up_from 0 (table_of (schema_of schema.now) (key_of (schema_of schema.now) k).child).rows) (work_of (schema_of schema.now) area.old)) × Follows (schema_of schema.now) tally.old area.old tally.new area.new }
+    requires { Tallied schema.now.bytes tally.old area.old × (FollowersOf schema.now.bytes k new f × Unserved (key_of (schema_of schema.now.bytes) k) (sought_values f.key) new) }
+    ensures { (result_of result (work_of (schema_of schema.now.bytes) area.new) ≡ children_by_values (Change.change left (schema_of schema.now.bytes)) (schema_of schema.now.bytes) new (key_of (schema_of schema.now.bytes) k) (sought_values f.key) (up_from 0 (table_of (schema_of schema.now.bytes) (key_of (schema_of schema.now.bytes) k).child).rows) (work_of (schema_of schema.now.bytes) area.old)) × Follows (schema_of schema.now.bytes) tally.old area.old tally.new area.new }
 {
-    let rows = f.rows;
-    let key = f.key;
-    let n = rows.count;
+    // A loop by hand: the search goes on from the row after the one found.
     let mut j = 0;
-    while j < n {
-        let i = scans::first_with_key(area, rows, key, j);
-        if n <= i {
-            return Verdict::Pass;
-        }
-        match row_turn(schema, area, tally, k, f, new, i, left) {
-            Verdict::Pass => {}
-            Verdict::Fail(c) => {
-                return Verdict::Fail(c);
-            }
-        }
+    while let Some(i) = scans::first_with_key(area, f.rows, &f.key, j) {
+        row_turn(schema, area, tally, k, f, new, i, left)?;
         j = i + 1;
     }
-    Verdict::Pass
+    Ok(())
 }
 
 // The action of foreign key k on row j of its child rows, which is taken: it does not map to the new parent row.
 #[cycle(row_changes)]
 fn row_turn(
-    schema: &[u8],
+    schema: &Schema,
     area: &mut [i64],
     tally: &mut [i64; 32],
     k: usize,
@@ -157,22 +135,13 @@ fn row_turn(
     j: usize,
     left: usize,
 ) -> Verdict
-    requires { TalliedAt schema.now tally.old area.old f.table j × (FollowersOf schema.now k new f × (Keys.serves (key_of (schema_of schema.now) k) (Rows.image f.table j (work_of (schema_of schema.now) area.old).tabs) new ≡ false)) }
-    ensures { (result_of result (work_of (schema_of schema.now) area.new) ≡ Change.taken (Change.change left (schema_of schema.now)) (schema_of schema.now) new (Change.action_of new (key_of (schema_of schema.now) k)) (key_of (schema_of schema.now) k) j (Rows.image f.table j (work_of (schema_of schema.now) area.old).tabs) (work_of (schema_of schema.now) area.old)) × Follows (schema_of schema.now) tally.old area.old tally.new area.new }
+    requires { TalliedAt schema.now.bytes tally.old area.old f.table j × (FollowersOf schema.now.bytes k new f × (Keys.serves (key_of (schema_of schema.now.bytes) k) (Rows.image f.table j (work_of (schema_of schema.now.bytes) area.old).tabs) new ≡ false)) }
+    ensures { (result_of result (work_of (schema_of schema.now.bytes) area.new) ≡ Change.taken (Change.change left (schema_of schema.now.bytes)) (schema_of schema.now.bytes) new (Change.action_of new (key_of (schema_of schema.now.bytes) k)) (key_of (schema_of schema.now.bytes) k) j (Rows.image f.table j (work_of (schema_of schema.now.bytes) area.old).tabs) (work_of (schema_of schema.now.bytes) area.old)) × Follows (schema_of schema.now.bytes) tally.old area.old tally.new area.new }
 {
-    let action = f.action;
-    match action {
-        Action::NoAction => Verdict::Pass,
-        Action::Restrict => Verdict::Fail(Refusal::Restricted),
-        Action::SetNull => {
-            let y = change_parts::child_after(schema, area, k, f, j, new);
-            row_change(schema, area, tally, f.table, j, y, left)
-        }
-        Action::SetDefault => {
-            let y = change_parts::child_after(schema, area, k, f, j, new);
-            row_change(schema, area, tally, f.table, j, y, left)
-        }
-        Action::Cascade => {
+    match f.action {
+        Action::NoAction => Ok(()),
+        Action::Restrict => Err(Refusal::Restricted),
+        Action::SetNull | Action::SetDefault | Action::Cascade => {
             let y = change_parts::child_after(schema, area, k, f, j, new);
             row_change(schema, area, tally, f.table, j, y, left)
         }

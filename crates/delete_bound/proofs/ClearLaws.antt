@@ -1,36 +1,34 @@
 -- The columns that SET NULL on delete can clear, looked for one by one.
 -- Assumes nothing.
-use mathlib.Core.Path.{◌≡◌, sym, ap, ◌∙◌}
-use mathlib.Core.Bool.{true, false}
-use mathlib.Core.List.{List}
-use Prim.Native.Nat.{ℕ, ◌+◌, ◌≤◌, ◌<◌}
-use native.Mathlib.Omega.{arith}
-use borrow.Author.Tests.{eq-eqb, ne_eqb}
+use mathlib.Core.Path.{◌≡◌, refl, sym, ap, ap₂, ◌∙◌}
+use mathlib.Core.Bool.{Bool, true, false, ◌||◌}
+use mathlib.Core.List.{List, [], ◌∷◌}
+use Prim.Native.Nat.{ℕ}
+use borrow.Author.Tests.{eq-eqb, ne_eqb, eqb-true, eqb-false}
 use lib.Dec.{eqb}
-use lib.ListN.{length, get_or, take, drop}
-use lib.Seq.{get_or-take, length-take-le}
+use lib.ListN.{length, take}
+use Rattle.std.specs.List.{list_any}
 use Rattle.schema.specs.Records.{ForeignKey, child_key}
 use Rattle.rules.specs.Lists.{any}
 use Rattle.rules.specs.DeleteBound.{is_set_null, clears}
-use Rattle.bridge.proofs.LoopLaws.{any_none, any_hit, any_miss}
 
--- ---- a column among the first n
-module _ (n : ℕ) (cs : List ℕ) (c : ℕ) (few : n ≤ length cs) (i : ℕ) where
-  taken : length (take n cs) ≡ n
-  taken = length-take-le n cs few
+-- ---- a column among others
 
-  pub column_none : n ≤ i → any (eqb c) (drop i (take n cs)) ≡ false
-  column_none h = any_none (eqb c) (take n cs) i (omega (arith, taken))
+eqb_swap : (a b : ℕ) → eqb a b ≡ eqb b a
+eqb_swap a b = go (eqb b a) refl
+  where
+    go : (t : Bool) → eqb b a ≡ t → eqb a b ≡ t
+    go true e = eq-eqb a b (sym (eqb-true b a e))
+    go false e = ne_eqb a b (λ q. eqb-false b a e (sym q))
 
-  module _ (l : i < n) where
-    at : get_or cs i 0 ≡ get_or (take n cs) i 0
-    at = sym (get_or-take n cs i 0 l)
-
-    pub column_hit : c ≡ get_or cs i 0 → any (eqb c) (drop i (take n cs)) ≡ true
-    column_hit q = any_hit (eqb c) (take n cs) i (omega (arith, taken)) 0 (get_or cs i 0) at (eq-eqb c (get_or cs i 0) q)
-
-    pub column_miss : (c ≡ get_or cs i 0 → ⊥) → any (eqb c) (drop i (take n cs)) ≡ any (eqb c) (drop (i + 1) (take n cs))
-    column_miss q = any_miss (eqb c) (take n cs) i (omega (arith, taken)) 0 (get_or cs i 0) at (ne_eqb c (get_or cs i 0) q)
+pub column_among : (c : ℕ) (cs : List ℕ) → list_any (λ d. eqb d c) cs ≡ any (eqb c) cs
+unfolding any
+column_among c [] = refl
+column_among c (d ∷ cs) = ap₂ (λ (s t : Bool). s || t) (eqb_swap d c) (column_among c cs) ∙ go (eqb c d)
+  where
+    go : (b : Bool) → b || any (eqb c) cs ≡ elim b [ true ↦ true | false ↦ any (eqb c) cs ]
+    go true = refl
+    go false = refl
 
 -- ---- one foreign key
 module _ (t c : ℕ) (k : ForeignKey) where

@@ -12,7 +12,7 @@ use Rattle.schema.specs.Marks.{Marks}
 use Rattle.schema.specs.Records.{Schema, table_of}
 use Rattle.schema.specs.Fields.{schema_of}
 use Rattle.rules.specs.declared.Refusal.{Refusal}
-use Rattle.rules.specs.declared.Verdict.TheVariants.{Pass, Fail}
+use Rattle.std.specs.Prelude.{Ok, Err}
 use Rattle.rules.specs.Lists.{𝟘, any}
 use Rattle.rules.specs.Values.{nat_of}
 use Rattle.rules.specs.Refusals.{number}
@@ -101,10 +101,10 @@ module _ (bs : List ℕ) (a : List ℤ) (h : Ready bs a) (t : ℕ) where
 
 -- ---- the answer
 module _ (bs : List ℕ) (a : List ℤ) where
-  pub bound_refused : {r : Refusal} → area_verdict bs a Pass ≡ Fail r → {code : ℤ} → code ≡ pos (number r) → record { code = code; number = 𝟘 } ≡ bound_answer bs a
+  pub bound_refused : {r : Refusal} → area_verdict bs a (Ok tt) ≡ Err r → {code : ℤ} → code ≡ pos (number r) → record { code = code; number = 𝟘 } ≡ bound_answer bs a
   unfolding bound_answer number_answer
   bound_refused v e = rw (v, e) refl
 
-  pub bound_passed : area_verdict bs a Pass ≡ Pass → {n : ℕ} {word : ℤ} → word ≡ pos n → n ≡ area_bound (schema_of bs) a → record { code = 𝟘; number = word } ≡ bound_answer bs a
+  pub bound_passed : area_verdict bs a (Ok tt) ≡ Ok tt → {n : ℕ} {word : ℤ} → word ≡ pos n → n ≡ area_bound (schema_of bs) a → record { code = 𝟘; number = word } ≡ bound_answer bs a
   unfolding bound_answer number_answer
   bound_passed v e f = rw (v, e, f) refl

@@ -7,29 +7,24 @@ ghost use Rattle.std.specs.Prelude.{◌≡◌, [], ◌≤◌, ◌<◌, eqb, leng
 ghost use Rattle.schema.specs.Marks.{Marks};
 ghost use Rattle.schema.specs.Records.{table_of, key_of};
 ghost use Rattle.schema.specs.Fields.{schema_of};
-ghost use Rattle.schema.specs.Check.{check_schema};
 ghost use Rattle.rules.specs.Lists.{any};
 ghost use Rattle.rules.specs.DeleteBound;
 ghost use Rattle.bridge.specs.Fit.{work_of};
 ghost use Rattle.bridge.specs.Ready.{Ready};
 ghost use Rattle.delete_bound.specs.StateBound.{state_bound};
 
-use rules::{Numbered, Verdict};
-use schema::{Action, SchemaAnswer};
+use fields::Schema;
+use rules::Numbered;
+use schema::Action;
 
 // ---- the columns that SET NULL on delete can clear
 
 // Whether an action is SET NULL.
+#[tactic(auto, unfolding(rules::specs::DeleteBound::is_set_null))]
 fn is_set_null(action: Action) -> bool
     ensures { result ≡ DeleteBound.is_set_null action }
 {
-    match action {
-        Action::SetNull => true,
-        Action::NoAction => false,
-        Action::Restrict => false,
-        Action::SetDefault => false,
-        Action::Cascade => false,
-    }
+    matches!(action, Action::SetNull)
 }
 
 // Whether column c is one of the first n of these.
@@ -37,60 +32,40 @@ fn has_column(n: usize, cs: [usize; 8], c: usize) -> bool
     requires { n ≤ 8 }
     ensures { result ≡ any (eqb c) (take n cs) }
 {
-    let mut i = 0;
-    while i < n {
-        let d = cs[i];
-        if c == d {
-            return true;
-        }
-        i += 1;
-    }
-    false
+    cs[..n].contains(&c)
 }
 
 // Whether column c of table t is a child column of foreign key k, which has SET NULL on delete.
-fn clears(schema: &[u8], k: usize, t: usize, c: usize) -> bool
-    requires { (check_schema schema.now ≡ SchemaAnswer.Accepted) × (k < length (schema_of schema.now).keys) }
-    ensures { result ≡ DeleteBound.clears t c (key_of (schema_of schema.now) k) }
+fn clears(schema: &Schema, k: usize, t: usize, c: usize) -> bool
+    requires { k < length (schema_of schema.now.bytes).keys }
+    ensures { result ≡ DeleteBound.clears t c (key_of (schema_of schema.now.bytes) k) }
 {
-    if !is_set_null(fields::on_delete(schema, k)) {
+    if !is_set_null(schema.on_delete(k)) {
         return false;
     }
-    if fields::child(schema, k) != t {
+    if schema.child(k) != t {
         return false;
     }
-    let n = fields::width(schema, k);
-    let cs = fields::child_columns(schema, k);
+    let n = schema.width(k);
+    let cs = schema.child_columns(k);
     has_column(n, cs, c)
 }
 
 // Whether column c of table t is a child column of a foreign key with SET NULL on delete.
-fn is_cleared(schema: &[u8], t: usize, c: usize) -> bool
-    requires { check_schema schema.now ≡ SchemaAnswer.Accepted }
-    ensures { result ≡ any (DeleteBound.clears t c) (schema_of schema.now).keys }
+fn is_cleared(schema: &Schema, t: usize, c: usize) -> bool
+    ensures { result ≡ any (DeleteBound.clears t c) (schema_of schema.now.bytes).keys }
 {
-    let n = fields::key_count(schema);
-    let mut k = 0;
-    while k < n {
-        if clears(schema, k, t, c) {
-            return true;
-        }
-        k += 1;
-    }
-    false
+    (0..schema.key_count()).any(|k| clears(schema, k, t, c))
 }
 
 // The mask of the columns of table t that SET NULL on delete can clear.
-fn cleared_columns(schema: &[u8], t: usize) -> usize
-    requires { (check_schema schema.now ≡ SchemaAnswer.Accepted) × (t < length (schema_of schema.now).tables) }
-    ensures { Marks (λ c. any (DeleteBound.clears t c) (schema_of schema.now).keys) (table_of (schema_of schema.now) t).columns result × (result < 256) }
+fn cleared_columns(schema: &Schema, t: usize) -> usize
+    requires { t < length (schema_of schema.now.bytes).tables }
+    ensures { Marks (λ c. any (DeleteBound.clears t c) (schema_of schema.now.bytes).keys) (table_of (schema_of schema.now.bytes) t).columns result × (result < 256) }
 {
-    let n = fields::columns(schema, t);
     let mut cleared = 0;
-    let mut c = 0;
-    while c < n {
+    for c in 0..schema.columns(t) {
         cleared = numbers::marked(cleared, c, is_cleared(schema, t, c));
-        c += 1;
     }
     cleared
 }
@@ -110,35 +85,29 @@ fn row_bound(cleared: usize, state: usize) -> usize
 }
 
 // The sum over the rows of table t.
-fn rows_bound(schema: &[u8], area: &[i64], t: usize) -> usize
-    requires { Ready schema.now area.now × (t < length (schema_of schema.now).tables) }
-    ensures { (result ≡ DeleteBound.rows_bound (schema_of schema.now) t (get_or (work_of (schema_of schema.now) area.now).tabs t [])) × (result ≤ 9216) }
+fn rows_bound(schema: &Schema, area: &[i64], t: usize) -> usize
+    requires { Ready schema.now.bytes area.now × (t < length (schema_of schema.now.bytes).tables) }
+    ensures { (result ≡ DeleteBound.rows_bound (schema_of schema.now.bytes) t (get_or (work_of (schema_of schema.now.bytes) area.now).tabs t [])) × (result ≤ 9216) }
 {
     let table = rows::rows_of(schema, t);
     let cleared = cleared_columns(schema, t);
-    let start = table.start;
-    let width = table.width;
-    let count = table.count;
     let mut bound = 0;
-    let mut j = 0;
-    while j < count {
-        bound += row_bound(cleared, words::nat_at(area, start + j * width));
-        j += 1;
+    for j in 0..table.count {
+        let state = words::nat_at(area, table.start + j * table.width);
+        bound += row_bound(cleared, state);
     }
     bound
 }
 
 // The sum over all rows of an area.
-fn area_bound(schema: &[u8], area: &[i64]) -> usize
-    requires { Ready schema.now area.now }
-    ensures { (result ≡ DeleteBound.area_bound (schema_of schema.now) area.now) × (result ≤ 147456) }
+fn area_bound(schema: &Schema, area: &[i64]) -> usize
+    requires { Ready schema.now.bytes area.now }
+    ensures { (result ≡ DeleteBound.area_bound (schema_of schema.now.bytes) area.now) × (result ≤ 147456) }
 {
-    let n = fields::table_count(schema);
     let mut bound = 0;
-    let mut t = 0;
-    while t < n {
-        bound += rows_bound(schema, area, t);
-        t += 1;
+    for t in 0..schema.table_count() {
+        let rows = rows_bound(schema, area, t);
+        bound += rows;
     }
     bound
 }
@@ -148,13 +117,13 @@ pub fn delete_bound(schema: &[u8], area: &[i64]) -> Numbered
     ensures { result ≡ DeleteBound.bound_answer schema.now area.now }
 {
     match questions::area_verdict(schema, area) {
-        Verdict::Fail(refusal) => Numbered {
+        Err(refusal) => Numbered {
             code: answers::refusal_number(refusal),
             number: 0,
         },
-        Verdict::Pass => Numbered {
+        Ok(()) => Numbered {
             code: 0,
-            number: words::word_of(area_bound(schema, area)),
+            number: words::word_of(area_bound(&Schema::new(schema), area)),
         },
     }
 }

@@ -9,22 +9,18 @@ use native.Mathlib.Omega.{arith}
 use lib.Dec.{eqb→eq}
 use lib.IntN.{ℤ}
 use lib.ListN.{length, get_or}
-use Rattle.schema.specs.declared.SchemaAnswer.{SchemaAnswer}
-use Rattle.schema.specs.declared.SchemaAnswer.TheVariants.{Accepted, Malformed}
+use Rattle.schema.specs.Check.{SchemaAnswer, Accepted, check_schema}
+use Rattle.schema.specs.declared.SchemaError.TheVariants.{Malformed}
 use Rattle.schema.specs.Records.{Schema, table_of}
 use Rattle.schema.specs.Sizes.{area_size}
 use Rattle.schema.specs.Fields.{schema_of}
-use Rattle.schema.specs.Check.{check_schema}
 use Rattle.schema.proofs.RangeLaws.{and_left}
 use Rattle.rules.specs.declared.Refusal.{Refusal}
 use Rattle.rules.specs.declared.Refusal.TheVariants.{SchemaMalformed, WrongLength, BadCall, Damaged, RowState, JournalFull, KeptOutOfRange, OrphansLeft}
-use Rattle.rules.specs.declared.Verdict.{Verdict}
-use Rattle.rules.specs.declared.Verdict.TheVariants.{Pass, Fail}
-use Rattle.rules.specs.declared.Answer.{Answer}
-use Rattle.rules.specs.declared.Answer.TheVariants.{Refused}
+use Rattle.std.specs.Prelude.{Ok, Err}
 use Rattle.rules.specs.Lists.{𝟘}
 use Rattle.rules.specs.Values.{nat_of}
-use Rattle.rules.specs.Refusals.{number, shown}
+use Rattle.rules.specs.Refusals.{Verdict, Answer, number, shown}
 use Rattle.rules.specs.Rows.{deleted_image, live}
 use Rattle.rules.specs.Book.{Work, Book}
 use Rattle.rules.specs.Calls.{Call, malformed, insert, update, delete, begin, savepoint, release, rollback_to, rollback, commit, delete_where, update_where, parse, seeks_null}
@@ -46,7 +42,7 @@ use Rattle.delete_laws.proofs.KeyShapes.{Shapes, accepted_shapes}
 use Rattle.delete_laws.proofs.Falling.{Ends, went, stopped, other_number, ends_delete, ends_found}
 
 -- a refusal by another number
-refused : (n free : ℕ) (r : Refusal) → number r ≢ 15 → WithinBound n free (Refused r)
+refused : (n free : ℕ) (r : Refusal) → number r ≢ 15 → WithinBound n free (Err r)
 unfolding shown
 refused n free r h = record { few = omega arith; never_full = λ l e. other_number r h (cc) }
 
@@ -136,13 +132,13 @@ unfolding call_on under_schema number
 delete_bounded bs bound c ws d = by (check_schema bs) refl
   where
     by : (a : SchemaAnswer) → check_schema bs ≡ a → WithinBound (area_bound (schema_of bs) ws) (free_records (schema_of bs) ws) (under_schema a (area_step (schema_of bs) c) ws).0
-    by Accepted e = in_area (accepted_shapes bs e) bound c ws d
-    by Malformed e = refused _ _ SchemaMalformed (omega arith)
+    by (Ok tt) e = in_area (accepted_shapes bs e) bound c ws d
+    by (Err Malformed) e = refused _ _ SchemaMalformed (omega arith)
 
 -- ---- the number that is answered
 
 -- an area of which 1, 3 or 10 refuses a question takes no call
-refused_area : (bs : List ℕ) (c ws : List ℤ) (free : ℕ) (r : Refusal) → area_verdict bs ws Pass ≡ Fail r → WithinBound 0 free (call_on bs c ws).0
+refused_area : (bs : List ℕ) (c ws : List ℤ) (free : ℕ) (r : Refusal) → area_verdict bs ws (Ok tt) ≡ Err r → WithinBound 0 free (call_on bs c ws).0
 unfolding call_on under_schema area_step step number
 refused_area bs c ws free r v = by (check_schema bs) refl
   where
@@ -152,13 +148,13 @@ refused_area bs c ws free r v = by (check_schema bs) refl
     -- refused, it is not an area that passes
     passes : check_schema bs ≡ Accepted → length ws ≡ area_size (schema_of bs) → legible (schema_of bs) ws ≡ true → undamaged (schema_of bs) (view (schema_of bs) ws) ≡ true → ⊥
     passes e size lg u =
-        let never : Pass ≡ Fail r = sym (sound_passes bs ws (sound_area bs ws e size (and_both lg u)) Pass) ∙ v in
+        let never : Ok tt ≡ Err r = sym (sound_passes bs ws (sound_area bs ws e size (and_both lg u)) (Ok tt)) ∙ v in
         let z : ◌≡◌ {A = ℕ} 0 1 = cc in
         omega arith
 
     by : (a : SchemaAnswer) → check_schema bs ≡ a → WithinBound 0 free (under_schema a (area_step (schema_of bs) c) ws).0
-    by Malformed e = refused 0 free SchemaMalformed (omega arith)
-    by Accepted e =
+    by (Err Malformed) e = refused 0 free SchemaMalformed (omega arith)
+    by (Ok tt) e =
         in_ensure _ _ _ WrongLength (omega arith) _ ws (λ size. in_ensure _ _ _ BadCall (omega arith) _ ws (λ a. in_ensure _ _ _ Damaged (omega arith) _ ws (λ lg.
         in_check _ _ _ BadCall (omega arith) _ (view s ws) (λ h. in_check _ _ _ Damaged (omega arith) _ (view s ws) (λ u.
         absurd (passes e (eqb→eq (length ws) (area_size s) (holds size)) lg u))))))
@@ -167,8 +163,8 @@ refused_area bs c ws free r v = by (check_schema bs) refl
 pub told_bounded : (bs : List ℕ) → bounded (schema_of bs) ≡ true → (c ws : List ℤ) → Deletes (parse c)
     → WithinBound (nat_of (bound_answer bs ws).number) (free_records (schema_of bs) ws) (call_on bs c ws).0
 unfolding bound_answer number_answer nat_of
-told_bounded bs bound c ws d = by (area_verdict bs ws Pass) refl
+told_bounded bs bound c ws d = by (area_verdict bs ws (Ok tt)) refl
   where
-    by : (v : Verdict) → area_verdict bs ws Pass ≡ v → WithinBound (nat_of (number_answer v (area_bound (schema_of bs) ws)).number) (free_records (schema_of bs) ws) (call_on bs c ws).0
-    by Pass e = delete_bounded bs bound c ws d
-    by (Fail r) e = refused_area bs c ws (free_records (schema_of bs) ws) r e
+    by : (v : Verdict) → area_verdict bs ws (Ok tt) ≡ v → WithinBound (nat_of (number_answer v (area_bound (schema_of bs) ws)).number) (free_records (schema_of bs) ws) (call_on bs c ws).0
+    by (Ok tt) e = delete_bounded bs bound c ws d
+    by (Err r) e = refused_area bs c ws (free_records (schema_of bs) ws) r e

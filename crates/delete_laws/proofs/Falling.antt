@@ -16,11 +16,10 @@ use Rattle.schema.specs.ParentKey.{Mem}
 use Rattle.schema.proofs.RangeLaws.{and_left, and_right}
 use Rattle.rules.specs.declared.Refusal.{Refusal}
 use Rattle.rules.specs.declared.Refusal.TheVariants.{JournalFull, TooDeep, BrokenKey, NotNull, NotUnique, BadWindow, Restricted}
-use Rattle.rules.specs.declared.Verdict.{Verdict}
-use Rattle.rules.specs.declared.Verdict.TheVariants.{Pass, Fail}
+use Rattle.std.specs.Prelude.{Ok, Err}
 use Rattle.rules.specs.Lists.{up_from}
 use Rattle.rules.specs.Values.{nat_of}
-use Rattle.rules.specs.Refusals.{number, failing}
+use Rattle.rules.specs.Refusals.{Verdict, number, failing}
 use Rattle.rules.specs.Rows.{Row, row_at, image, overwrite, deleted_image, live, live_state}
 use Rattle.rules.specs.Keys.{maps_to, takes, fires}
 use Rattle.rules.specs.Book.{Work, write}
@@ -93,32 +92,32 @@ module _ {s : Schema} where
 -- ---- one write
 
 verdict_number : Verdict → ℕ
-verdict_number Pass = 0
-verdict_number (Fail c) = number c
+verdict_number (Ok tt) = 0
+verdict_number (Err c) = number c
 
 -- a check that does not refuse by 15, before others that do not
-not_full : (b : Bool) (c : Refusal) (v : Verdict) → number c ≢ 15 → v ≢ Fail JournalFull → failing b c v ≢ Fail JournalFull
+not_full : (b : Bool) (c : Refusal) (v : Verdict) → number c ≢ 15 → v ≢ Err JournalFull → failing b c v ≢ Err JournalFull
 unfolding failing verdict_number number
 not_full true c v n h e = n (ap verdict_number e)
 not_full false c v n h e = h e
 
-none_free : (n : ℕ) (v : Verdict) → v ≢ Fail JournalFull → failing (eqb n 0) JournalFull v ≡ Fail JournalFull → n ≡ 0
+none_free : (n : ℕ) (v : Verdict) → v ≢ Err JournalFull → failing (eqb n 0) JournalFull v ≡ Err JournalFull → n ≡ 0
 unfolding failing
 none_free n v h e = by (eqb n 0) refl e
   where
-    by : (b : Bool) → eqb n 0 ≡ b → failing b JournalFull v ≡ Fail JournalFull → n ≡ 0
+    by : (b : Bool) → eqb n 0 ≡ b → failing b JournalFull v ≡ Err JournalFull → n ≡ 0
     by true q f = eqb-true n 0 q
     by false q f = absurd (h f)
 
 -- no record is free where a row change is refused by 15
-full_none : (s : Schema) (t r : ℕ) (new : Row) (w : Work) → admits s t r new w ≡ Fail JournalFull → length w.spare ≡ 0
+full_none : (s : Schema) (t r : ℕ) (new : Row) (w : Work) → admits s t r new w ≡ Err JournalFull → length w.spare ≡ 0
 unfolding admits verdict_number number
 full_none s t r new w e =
     none_free (length w.spare) _
     (not_full _ BrokenKey _ (omega arith)
     (not_full _ NotNull _ (omega arith)
     (not_full _ NotUnique _ (omega arith)
-    (not_full _ BadWindow Pass (omega arith) (λ f. let z : ◌≡◌ {A = ℕ} 0 15 = ap verdict_number f in omega arith)))))
+    (not_full _ BadWindow (Ok tt) (omega arith) (λ f. let z : ◌≡◌ {A = ℕ} 0 15 = ap verdict_number f in omega arith)))))
     e
 
 module _ {s : Schema} (t r : ℕ) (new : Row) (w : Work) (alive : live (row_at t r w.tabs) ≡ true) where
@@ -133,14 +132,14 @@ module _ {s : Schema} (t r : ℕ) (new : Row) (w : Work) (alive : live (row_at t
       }
 
   -- a live row is changed, if what follows its checks ends so
-  ends_admitted : (k : Work → Result) → (admits s t r new w ≡ Pass → Ends s w (k w)) → Ends s w (admitted (admits s t r new w) k w)
+  ends_admitted : (k : Work → Result) → (admits s t r new w ≡ Ok tt → Ends s w (k w)) → Ends s w (admitted (admits s t r new w) k w)
   unfolding admitted
   ends_admitted k p = by (admits s t r new w) refl
     where
       by : (v : Verdict) → admits s t r new w ≡ v → Ends s w (admitted v k w)
-      by Pass e = p e
-      by (Fail c) e =
-          stopped (falls_none w) (λ (q : c ≡ JournalFull). omega (arith, full_none s t r new w (e ∙ ap Fail q), bound_some s t r w.tabs alive))
+      by (Ok tt) e = p e
+      by (Err c) e =
+          stopped (falls_none w) (λ (q : c ≡ JournalFull). omega (arith, full_none s t r new w (e ∙ ap Err q), bound_some s t r w.tabs alive))
 
 -- ---- SET NULL
 

@@ -7,12 +7,11 @@ use mathlib.Core.List.{List}
 use borrow.Author.Tests.{eq-eqb}
 use lib.Dec.{eqb, ltb}
 use lib.ListN.{length}
-use Rattle.schema.specs.declared.SchemaAnswer.TheVariants.{Accepted}
+use Rattle.schema.specs.Check.{Accepted, check_schema}
 use Rattle.schema.specs.declared.Action.TheVariants.{SetNull, SetDefault}
 use Rattle.schema.specs.Ranges.{all}
 use Rattle.schema.specs.Records.{ForeignKey, Schema, no_key, table_of, key_of, child_key, parent_key}
 use Rattle.schema.specs.Fields.{schema_of}
-use Rattle.schema.specs.Check.{check_schema}
 use Rattle.schema.specs.ParentKey.{Mem}
 use Rattle.schema.proofs.FieldLaws.{columns_few, read_child, same_width, pairs_some}
 use Rattle.rules.specs.Lists.{any}

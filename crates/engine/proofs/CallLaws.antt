@@ -7,16 +7,17 @@ use Prim.Native.Nat.{ℕ, ◌≤◌}
 use borrow.Author.Tests.{eq-eqb, ne_eqb}
 use lib.IntN.{ℤ}
 use lib.ListN.{length}
-use Rattle.schema.specs.declared.SchemaAnswer.{SchemaAnswer}
-use Rattle.schema.specs.declared.SchemaAnswer.TheVariants.{Accepted, Malformed}
+use Rattle.schema.specs.Check.{SchemaAnswer, Accepted, check_schema}
+use Rattle.schema.specs.declared.SchemaError.{SchemaError}
+use Rattle.schema.specs.declared.SchemaError.TheVariants.{Malformed}
 use Rattle.schema.specs.Records.{Schema}
 use Rattle.schema.specs.Sizes.{area_size}
 use Rattle.schema.specs.Fields.{schema_of}
-use Rattle.schema.specs.Check.{check_schema}
-use Rattle.rules.specs.declared.Answer.TheVariants.{Refused}
+use Rattle.std.specs.Prelude.{Err}
+use Rattle.rules.specs.declared.Refusal.{Refusal}
 use Rattle.rules.specs.declared.Refusal.TheVariants.{SchemaMalformed, WrongLength, BadCall, Damaged}
 use Rattle.rules.specs.State.{undamaged}
-use Rattle.rules.specs.Calls.{Call, parse, allowed}
+use Rattle.rules.specs.Calls.{Call, malformed, parse, allowed}
 use Rattle.rules.specs.Statement.{check}
 use Rattle.rules.specs.Step.{act, step}
 use Rattle.rules.specs.Area.{AreaTurn, view, legible, on_words, ensure, area_step}
@@ -27,40 +28,37 @@ use Rattle.laws.specs.Reached.{Reached}
 use Rattle.laws.proofs.Reached.{reached_sound}
 use Rattle.laws.proofs.Changed.{changed_few}
 use Rattle.answers.specs.AnswerWords.{answer_words}
-use Rattle.rules.specs.Refusals.{shown}
-use Rattle.rules.specs.declared.Answer.{Answer}
-use Rattle.call_form.specs.declared.Request.{Request}
-use Rattle.call_form.specs.declared.Request.TheVariants as request
-use Rattle.call_form.specs.Requests.{call_of, judged}
-use Rattle.call_form.proofs.Requested.{is_call, Read, read_is, refused_is}
-use Rattle.engine.specs.Calls.{is_refused, call_words}
+use Rattle.rules.specs.Refusals.{Answer, shown}
+use Rattle.call_form.specs.Requests.{judged}
+use Rattle.call_form.proofs.Requested.{Read, refused_is}
+use Rattle.engine.specs.Calls.{call_words}
 
 -- ---- refusal 1
-module _ (b : List ℕ) (a : List ℤ) (x : SchemaAnswer) (e : x ≡ check_schema b) (c : List ℤ) where
-  pub call_malformed : x ≡ Malformed → (Refused SchemaMalformed, a) ≡ call_on b c a
+module _ (b : List ℕ) (a c : List ℤ) where
+  pub call_malformed : {e : SchemaError} → check_schema b ≡ Err e → (Err SchemaMalformed, a) ≡ call_on b c a
   unfolding call_on under_schema
-  call_malformed m = rw (← e, m) refl
+  call_malformed {e = Malformed} m = rw m refl
 
-  pub call_under : x ≡ Accepted → area_step (schema_of b) c a ≡ call_on b c a
+  pub call_under : check_schema b ≡ Accepted → area_step (schema_of b) c a ≡ call_on b c a
   unfolding call_on under_schema
-  call_under m = rw (← e, m) refl
+  call_under m = rw m refl
 
 -- ---- refusals 3, 4 and 10
 module _ (s : Schema) (c a : List ℤ) where
-  pub wrong_length : (length a ≡ area_size s → ⊥) → (Refused WrongLength, a) ≡ area_step s c a
+  pub wrong_length : (length a ≡ area_size s → ⊥) → (Err WrongLength, a) ≡ area_step s c a
   unfolding area_step ensure
   wrong_length h = rw (ne_eqb (length a) (area_size s) h) refl
 
   module _ (size : length a ≡ area_size s) where
-    pub bad_call : allowed s (parse c) ≡ false → (Refused BadCall, a) ≡ area_step s c a
+    pub bad_call : {r : Refusal} → r ≡ BadCall → allowed s (parse c) ≡ false → (Err r, a) ≡ area_step s c a
     unfolding area_step ensure
-    bad_call h = rw (eq-eqb (length a) (area_size s) size, h) refl
+    bad_call e h = rw (e, eq-eqb (length a) (area_size s) size, h) refl
 
-    pub damaged : allowed s (parse c) ≡ true → legible s a && undamaged s (view s a) ≡ false → (Refused Damaged, a) ≡ area_step s c a
+    pub damaged : allowed s (parse c) ≡ true → legible s a && undamaged s (view s a) ≡ false → (Err Damaged, a) ≡ area_step s c a
     unfolding area_step ensure step check
     damaged h d = go (legible s a) refl
       where
-        go : (t : Bool) → legible s a ≡ t → (Refused Damaged, a) ≡ area_step s c a
+        go : (t : Bool) → legible s a ≡ t → (Err Damaged, a) ≡ area_step s c a
         go false e = rw (eq-eqb (length a) (area_size s) size, h, e) refl
         go true e =
             let u : undamaged s (view s a) ≡ false = ap (λ t. t && undamaged s (view s a)) (sym e) ∙ d in
@@ -70,54 +68,15 @@ module _ (s : Schema) (c a : List ℤ) where
     unfolding area_step ensure step check
     carried q l u = rw (eq-eqb (length a) (area_size s) size, q.allowed_is, l, u, q.parsed_is) refl
 
--- ---- what was read
-module _ (s : Schema) (c : List ℤ) where
-  malformed_is : (r : Request) → is_refused r ≡ true → call_of r c ≡ call_of request.Malformed c
-  unfolding is_refused
-  malformed_is request.Malformed e = refl
-  malformed_is (request.Insert t r) e = cc
-  malformed_is (request.Update t r) e = cc
-  malformed_is (request.Delete t r) e = cc
-  malformed_is request.Begin e = cc
-  malformed_is request.Savepoint e = cc
-  malformed_is (request.Release a) e = cc
-  malformed_is (request.RollbackTo a) e = cc
-  malformed_is request.Rollback e = cc
-  malformed_is request.Commit e = cc
-  malformed_is (request.DeleteWhere t k) e = cc
-  malformed_is (request.UpdateWhere t k) e = cc
-
-  call_is : (r : Request) → is_refused r ≡ false → is_call (call_of r c) ≡ true
-  unfolding is_refused is_call call_of
-  call_is request.Malformed e = cc
-  call_is (request.Insert t r) e = refl
-  call_is (request.Update t r) e = refl
-  call_is (request.Delete t r) e = refl
-  call_is request.Begin e = refl
-  call_is request.Savepoint e = refl
-  call_is (request.Release a) e = refl
-  call_is (request.RollbackTo a) e = refl
-  call_is request.Rollback e = refl
-  call_is request.Commit e = refl
-  call_is (request.DeleteWhere t k) e = refl
-  call_is (request.UpdateWhere t k) e = refl
-
-  module _ (r : Request) (e : call_of r c ≡ judged s (parse c)) where
-    pub read_refused : is_refused r ≡ true → allowed s (parse c) ≡ false
-    read_refused h = refused_is s c (sym (malformed_is r h) ∙ e)
-
-    pub read_call : is_refused r ≡ false → Read s c (call_of r c)
-    read_call h = read_is s c (call_of r c) (call_is r h) e
-
 -- ---- a call on an area that calls led to
 module _ {b : List ℕ} {a : List ℤ} (h : Reached b a) (c : List ℤ) where
-  pub next_refused : allowed (schema_of b) (parse c) ≡ false → (Refused BadCall, a) ≡ call_on b c a
-  next_refused e = bad_call (schema_of b) c a (reached_sound h).ready.fit.size e ∙ call_under b a Accepted (sym h.accepted) c refl
+  pub next_refused : {r : Refusal} → (r ≡ BadCall) × (malformed ≡ judged (schema_of b) (parse c)) → (Err r, a) ≡ call_on b c a
+  next_refused (e, f) = bad_call (schema_of b) c a (reached_sound h).ready.fit.size e (refused_is (schema_of b) c f) ∙ call_under b a c h.accepted
 
   pub next_carried : {d : Call} → Read (schema_of b) c d → {x : AreaTurn} → x ≡ on_words (act (schema_of b) d (view (schema_of b) a)) → x ≡ call_on b c a
   next_carried q e =
       let f : Fit (schema_of b) a = (reached_sound h).ready.fit in
-      e ∙ carried (schema_of b) c a f.size q f.legible_is (reached_sound h).undamaged_is ∙ call_under b a Accepted (sym h.accepted) c refl
+      e ∙ carried (schema_of b) c a f.size q f.legible_is (reached_sound h).undamaged_is ∙ call_under b a c h.accepted
 
 -- ---- an answer's words
 

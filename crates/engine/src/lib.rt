@@ -4,52 +4,26 @@
 
 ghost use Rattle.std.specs.Prelude.{◌≡◌};
 ghost use Rattle.schema.specs.Fields.{schema_of};
-ghost use Rattle.schema.specs.Check.{check_schema};
 ghost use Rattle.rules.specs.Area.{area_step};
 ghost use Rattle.rules.specs.Engine.{call_on};
 ghost use Rattle.laws.specs.Reached.{Reached};
-ghost use Rattle.engine.specs.Calls.{is_refused, call_words};
+ghost use Rattle.engine.specs.Calls.{call_words};
 
-use call_form::Request;
+use fields::Schema;
 use rules::{Answer, Refusal};
-use schema::SchemaAnswer;
 
 // ---- calls
 
-// Whether refusal 4 refuses a request.
-fn is_refused(request: Request) -> bool
-    ensures { result ≡ is_refused request }
-{
-    match request {
-        Request::Malformed => true,
-        Request::Insert(_, _) => false,
-        Request::Update(_, _) => false,
-        Request::Delete(_, _) => false,
-        Request::Begin => false,
-        Request::Savepoint => false,
-        Request::Release(_) => false,
-        Request::RollbackTo(_) => false,
-        Request::Rollback => false,
-        Request::Commit => false,
-        Request::DeleteWhere(_, _) => false,
-        Request::UpdateWhere(_, _) => false,
-    }
-}
-
 // A call under an accepted schema: refusals 3, 4 and 10, then the call.
-fn call_area(schema: &[u8], area: &mut [i64], call: &[i64]) -> Answer
-    requires { check_schema schema.now ≡ SchemaAnswer.Accepted }
-    ensures { (result, area.new) ≡ area_step (schema_of schema.now) call.now area.old }
+fn call_area(schema: &Schema, area: &mut [i64], call: &[i64]) -> Answer
+    ensures { (result, area.new) ≡ area_step (schema_of schema.now.bytes) call.now area.old }
 {
-    if area.len() != fields::area_length(schema) {
-        return Answer::Refused(Refusal::WrongLength);
+    if area.len() != schema.area_length() {
+        return Err(Refusal::WrongLength);
     }
-    let request = call_form::read_call(schema, call);
-    if is_refused(request) {
-        return Answer::Refused(Refusal::BadCall);
-    }
+    let request = call_form::read_call(schema, call)?;
     if !area_form::is_undamaged(schema, area) {
-        return Answer::Refused(Refusal::Damaged);
+        return Err(Refusal::Damaged);
     }
     calls::carry_out(schema, area, call, request, false)
 }
@@ -59,11 +33,9 @@ pub fn next(schema: &[u8], area: &mut [i64], call: &[i64]) -> Answer
     requires { Reached schema.now area.old }
     ensures { (result, area.new) ≡ call_on schema.now call.now area.old }
 {
-    let request = call_form::read_call(schema, call);
-    if is_refused(request) {
-        return Answer::Refused(Refusal::BadCall);
-    }
-    calls::carry_out(schema, area, call, request, true)
+    let schema = Schema::new(schema);
+    let asked = call_form::read_call(&schema, call)?;
+    calls::carry_out(&schema, area, call, asked, true)
 }
 
 // ---- public operations
@@ -72,10 +44,8 @@ pub fn next(schema: &[u8], area: &mut [i64], call: &[i64]) -> Answer
 pub fn call(schema: &[u8], area: &mut [i64], call: &[i64]) -> Answer
     ensures { (result, area.new) ≡ call_on schema.now call.now area.old }
 {
-    match schema_check::check_schema(schema) {
-        SchemaAnswer::Malformed => Answer::Refused(Refusal::SchemaMalformed),
-        SchemaAnswer::Accepted => call_area(schema, area, call),
-    }
+    let schema = Schema::check(schema)?;
+    call_area(&schema, area, call)
 }
 
 // Carries out a call, or refuses it; answers its code, rows changed and net.

@@ -9,18 +9,15 @@ use native.Mathlib.Omega.{arith}
 use lib.Dec.{leb, le→leb}
 use lib.IntN.{ℤ}
 use lib.ListN.{length, get_or, length-append}
-use Rattle.schema.specs.declared.SchemaAnswer.TheVariants.{Accepted}
+use Rattle.schema.specs.Check.{Accepted, check_schema}
 use Rattle.schema.specs.Ranges.{all}
 use Rattle.schema.specs.ParentKey.{Mem}
 use Rattle.schema.specs.Records.{Schema}
 use Rattle.schema.specs.Fields.{schema_of}
-use Rattle.schema.specs.Check.{check_schema}
 use Rattle.schema.proofs.SchemaLaws.{Valid, accepted_valid}
-use Rattle.rules.specs.declared.Answer.{Answer}
-use Rattle.rules.specs.declared.Answer.TheVariants.{Done}
 use Rattle.rules.specs.Lists.{𝟘, sum}
 use Rattle.rules.specs.Values.{nat_of}
-use Rattle.rules.specs.Refusals.{shown, accepted}
+use Rattle.rules.specs.Refusals.{Answer, shown, accepted, did}
 use Rattle.rules.specs.Keys.{counts}
 use Rattle.rules.specs.Book.{Entry, Level, Work, Book, undo_all}
 use Rattle.rules.specs.Calls.{rollback_to, rollback, parse, allowed}
@@ -52,8 +49,8 @@ use Rattle.families.proofs.ReorderedCalls.{AlikeRuns, run_alike}
 use Rattle.families.proofs.AlikeAreas.{areas_alike, words_alike}
 
 -- equal parts, equal answers
-done_same : {m n : ℕ} {x y : List ℤ} → m ≡ n → x ≡ y → Done m (sum x) ≡ Done n (sum y)
-done_same e f = λ i. Done (e i) (sum (f i))
+done_same : {m n : ℕ} {x y : List ℤ} → m ≡ n → x ≡ y → did m (sum x) ≡ did n (sum y)
+done_same e f = λ i. did (e i) (sum (f i))
 
 -- the area, and the answer, of a turn
 area_of : {t : AreaTurn} {a : Answer} {l : List ℤ} → t ≡ (a, l) → t.1 ≡ l

@@ -10,7 +10,7 @@ use lib.IntN.{ℤ}
 use lib.ListN.{length, length-append}
 use Rattle.schema.specs.Ranges.{all}
 use Rattle.rules.specs.declared.Refusal.{Refusal}
-use Rattle.rules.specs.declared.Answer.TheVariants.{Done}
+use Rattle.rules.specs.Refusals.{did}
 use Rattle.rules.specs.Book.{Entry, Level, Book, undo_all, cleared}
 use Rattle.rules.specs.State.{in_transaction}
 use Rattle.rules.specs.Statement.{Turn, check, demand}
@@ -92,5 +92,5 @@ module _ (o : Order) where
   pub same_use : (since : List Entry) → length (since ++ (o.other ++ o.old)) ≡ length (since ++ (o.one ++ o.old))
   same_use since = omega (arith, use_is since o.one, use_is since o.other, o.sizes)
 
-pub done_rows : {m n : ℕ} {d : ℤ} → m ≡ n → Done m d ≡ Done n d
-done_rows {d = d} e = ap (λ n. Done n d) e
+pub done_rows : {m n : ℕ} {d : ℤ} → m ≡ n → did m d ≡ did n d
+done_rows {d = d} e = ap (λ n. did n d) e

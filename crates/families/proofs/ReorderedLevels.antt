@@ -12,9 +12,8 @@ use lib.ListN.{length, take, drop, length-drop, take-append-drop}
 use lib.Seq.{take-append-le, drop-append-le, take-append-add, drop-append-add}
 use Rattle.schema.specs.Ranges.{all}
 use Rattle.schema.specs.Records.{Schema}
-use Rattle.rules.specs.declared.Answer.TheVariants.{Done}
 use Rattle.rules.specs.Lists.{sum, less}
-use Rattle.rules.specs.Refusals.{accepted}
+use Rattle.rules.specs.Refusals.{accepted, did}
 use Rattle.rules.specs.Rows.{Tables}
 use Rattle.rules.specs.Book.{Entry, Level, Work, Book, zero_records, zero_levels, undo_all, undo, undo_to, emptied, push, close, back_to, back, ended, abort}
 use Rattle.rules.specs.Calls.{rollback_to, rollback}
@@ -141,7 +140,7 @@ module _ (o : Order) (b : Book) (since : List Entry) (p : Reordering o b since) 
   -- a rollback to the same book
   rolled_same : {e f : Book} → e ≡ f → rolled e x ≡ rolled f y
   unfolding rolled
-  rolled_same q = ap₂ {C = Turn} (λ m (e : Book). (Done (m - length e.work.used) (sum (less e.kept b.kept)), e)) (sym (same_use o since)) q
+  rolled_same q = ap₂ {C = Turn} (λ m (e : Book). (did (m - length e.work.used) (sum (less e.kept b.kept)), e)) (sym (same_use o since)) q
 
   turns_same : {t t' : Turn} → t ≡ t' → AlikeTurns o t t'
   turns_same q = record { answer = ap (λ (t : Turn). t.0) (sym q); books = alike_same o (ap {B = Book} (λ (t : Turn). t.1) q) }

@@ -7,7 +7,7 @@ use native.Mathlib.Omega.{arith}
 use lib.IntN.{ℤ}
 use lib.ListN.{length, length-append}
 use Rattle.schema.specs.Records.{Schema}
-use Rattle.rules.specs.declared.Answer.TheVariants.{Refused}
+use Rattle.std.specs.Prelude.{Err}
 use Rattle.rules.specs.Book.{Entry, Work, Book, undo_all, cleared}
 use Rattle.rules.specs.Change.{Result, go, stop}
 use Rattle.rules.specs.Statement.{journal_after, after_statement, settle, conclude, statement}
@@ -68,7 +68,7 @@ module _ (s : Schema) (o : Order) (b : Book) (since : List Entry) (p : Reorderin
     by_trace (go w) (went t) = rw (t.done, t.again y.work (λ u q. refl) t.room) (alike_written t.writes)
     by_trace (stop c w) (stopped h) = refused (body y.work) (h y.work (λ u q. refl) refl)
       where
-        refused : (r : Result) → Stops c r → AlikeTurns o (Refused c, cleared x) (conclude s r y)
+        refused : (r : Result) → Stops c r → AlikeTurns o (Err c, cleared x) (conclude s r y)
         refused (go _) h = elim h [ ]
         refused (stop c w') stops = record { answer = refl; books = alike_cleared o alike }
 

@@ -4,8 +4,7 @@ use mathlib.Core.Path.{◌≡◌, sym, ◌∙◌, ap}
 use mathlib.Core.List.{List}
 use Prim.Native.Nat.{ℕ}
 use lib.IntN.{ℤ}
-use Rattle.rules.specs.declared.Answer.{Answer}
-use Rattle.rules.specs.Refusals.{accepted}
+use Rattle.rules.specs.Refusals.{Answer, accepted}
 use Rattle.rules.specs.Area.{AreaTurn}
 use Rattle.rules.specs.Engine.{call_on}
 use Rattle.families.specs.EitherOrder.{OneAfterOther, EitherOrder, both, swapped}

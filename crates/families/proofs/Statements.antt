@@ -11,9 +11,8 @@ use Rattle.schema.proofs.RangeLaws.{and_left}
 use Rattle.schema.proofs.SchemaLaws.{Valid}
 use Rattle.rules.specs.declared.Refusal.{Refusal}
 use Rattle.rules.specs.declared.Refusal.TheVariants.{RowState}
-use Rattle.rules.specs.declared.Answer.TheVariants.{Done}
 use Rattle.rules.specs.Lists.{sum, less, plus}
-use Rattle.rules.specs.Refusals.{accepted}
+use Rattle.rules.specs.Refusals.{accepted, did}
 use Rattle.rules.specs.Rows.{Row, Tables, row_at, live}
 use Rattle.rules.specs.Keys.{counts}
 use Rattle.rules.specs.Book.{Work, Book}
@@ -97,7 +96,7 @@ pub record Accepts (s : Schema) (P : ℕ → Type 0) (c : Call) (st : StatementO
 
 -- the turn of a statement that leads to w
 abbrev pub turn_to : Schema → Work → Book → Turn
-turn_to s w b = (Done (length w.used - length b.work.used) (sum (less (counts s w.tabs) (counts s b.work.tabs))), moved (counts s w.tabs) w b)
+turn_to s w b = (did (length w.used - length b.work.used) (sum (less (counts s w.tabs) (counts s b.work.tabs))), moved (counts s w.tabs) w b)
 
 pub check_passed : (t : Bool) (r : Refusal) (k : Book → Turn) (b : Book) → accepted (check t r k b).0 ≡ true → (t ≡ true) × (accepted (k b).0 ≡ true)
 unfolding check accepted
@@ -136,7 +135,7 @@ module _ {s : Schema} {b : Book} (g : Good s b) (i : in_transaction b.levels ≡
       rw (kept_after w)
       (demand_is _ _ _ b (counts_in_range s w.tabs sh)
       ∙ demand_is _ _ _ b (enforced_is (counts s w.tabs) ∙ z)
-      ∙ ap {B = Turn} (λ (b' : Book). (Done (length w.used - length b.work.used) (sum (less (counts s w.tabs) (counts s b.work.tabs))), b')) (after_is w (counts s w.tabs)))
+      ∙ ap {B = Turn} (λ (b' : Book). (did (length w.used - length b.work.used) (sum (less (counts s w.tabs) (counts s b.work.tabs))), b')) (after_is w (counts s w.tabs)))
 
   conclude_passed : (x : Result) → accepted (conclude s x b).0 ≡ true → (w : Work) × (x ≡ go w) × (immediate_zero s.keys (counts s w.tabs) ≡ true)
   unfolding conclude settle accepted

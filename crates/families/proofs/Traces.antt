@@ -16,9 +16,8 @@ use Rattle.schema.specs.ParentKey.{Mem}
 use Rattle.schema.proofs.RangeLaws.{and_left, and_right}
 use Rattle.rules.specs.declared.Refusal.{Refusal}
 use Rattle.rules.specs.declared.Refusal.TheVariants.{JournalFull, TooDeep, BrokenKey, NotNull, NotUnique, BadWindow, Restricted}
-use Rattle.rules.specs.declared.Verdict.{Verdict}
-use Rattle.rules.specs.declared.Verdict.TheVariants.{Pass, Fail}
-use Rattle.rules.specs.Refusals.{failing}
+use Rattle.std.specs.Prelude.{Ok, Err}
+use Rattle.rules.specs.Refusals.{Verdict, failing}
 use Rattle.rules.specs.Lists.{any, padded, up_from}
 use Rattle.rules.specs.Rows.{Row, row_at, image, live}
 use Rattle.rules.specs.Keys.{serves, takes, fires, uses_broken}
@@ -163,7 +162,7 @@ module _ (P : ℕ → Type 0) where
     room_left zero e = absurd (true≢false e)
     room_left (suc n) e = omega arith
 
-    write_traced : (w : Work) → 1 ≤ length w.spare → Trace P (written Pass) w (write t r new w)
+    write_traced : (w : Work) → 1 ≤ length w.spare → Trace P (written (Ok tt)) w (write t r new w)
     unfolding admitted
     write_traced w h =
         record {
@@ -171,15 +170,15 @@ module _ (P : ℕ → Type 0) where
           within = (p, tt);
           done = sym (write_all_one one w);
           room = h;
-          again = λ v a l. rw (has_room (length v.spare) l Pass) (ap go (sym (write_all_one one v)));
+          again = λ v a l. rw (has_room (length v.spare) l (Ok tt)) (ap go (sym (write_all_one one v)));
         }
 
     -- refused by 15, or by one of the other checks
-    no_room : (c : Refusal) (v : Verdict) (full : Bool) → failing full JournalFull v ≡ Fail c → (w : Work) → eqb (length w.spare) 0 ≡ full → Stops c (written v w)
+    no_room : (c : Refusal) (v : Verdict) (full : Bool) → failing full JournalFull v ≡ Err c → (w : Work) → eqb (length w.spare) 0 ≡ full → Stops c (written v w)
     unfolding admitted
     no_room c v full f w e = rw (e, f) stops
 
-    refused : (v : Verdict) {w w' : Work} {c : Refusal} → failing (eqb (length w.spare) 0) JournalFull v ≡ Fail c → Traced P (written v) w (stop c w')
+    refused : (v : Verdict) {w w' : Work} {c : Refusal} → failing (eqb (length w.spare) 0) JournalFull v ≡ Err c → Traced P (written v) w (stop c w')
     refused v {c = c} f = stopped (λ z a e. no_room c v _ f z (ap (λ n. eqb n 0) e))
 
     pub local_write : (v : Verdict) → Local P (written v)
@@ -188,16 +187,16 @@ module _ (P : ℕ → Type 0) where
       where
         by : (full : Bool) (v : Verdict) → eqb (length w.spare) 0 ≡ full → Traced P (written v) w (admitted (failing full JournalFull v) (λ w. go (write t r new w)) w)
         by true v e = refused v (rw e refl)
-        by false Pass e = went (write_traced w (room_left (length w.spare) e))
-        by false (Fail c) e = refused (Fail c) (rw e refl)
+        by false (Ok tt) e = went (write_traced w (room_left (length w.spare) e))
+        by false (Err c) e = refused (Err c) (rw e refl)
 
 -- ---- a row change
 
 -- what is done where checks pass: first g, then k, which may know the state before
 admitted_then : (v : Verdict) (g : Work → Work) (k : Work → Work → Result) (w : Work) → then (admitted v (λ w. go (g w)) w) (k w) ≡ admitted v (λ w. k w (g w)) w
 unfolding admitted then
-admitted_then Pass g k w = refl
-admitted_then (Fail c) g k w = refl
+admitted_then (Ok tt) g k w = refl
+admitted_then (Err c) g k w = refl
 
 -- P holds of the child table of an unbroken foreign key where it holds of the parent table, and the other way round
 pub record Closed (s : Schema) (P : ℕ → Type 0) : Type 0 where
@@ -264,7 +263,7 @@ module _ (s : Schema) (P : ℕ → Type 0) (closed : Closed s P) where
           failing (any (uses_broken new t (get_or rows r [])) s.keys) BrokenKey
           (failing (live new && not_null_broken (table_of s t) new) NotNull
           (failing (live new && unique_broken (table_of s t) r new rows) NotUnique
-          (failing (live new && any (bad_window t r new rows) s.keys) BadWindow Pass)))
+          (failing (live new && any (bad_window t r new rows) s.keys) BadWindow (Ok tt))))
 
       after : List Row → Work → Result
       after rows = actions (change n s) s new t (padded 9 (get_or rows r [])) s.keys

@@ -5,10 +5,9 @@ use Rattle.schema.specs.Records.{Schema}
 use Rattle.schema.specs.Sizes.{rows_start, rows_size}
 use Rattle.schema.specs.Fields.{schema_of}
 use Rattle.schema.specs.ParentKey.{Mem}
-use Rattle.rules.specs.declared.Answer.{Answer}
 use Rattle.rules.specs.Lists.{𝟘}
 use Rattle.rules.specs.Values.{nat_of}
-use Rattle.rules.specs.Refusals.{shown, accepted}
+use Rattle.rules.specs.Refusals.{Answer, shown, accepted}
 use Rattle.rules.specs.Step.{Logged}
 use Rattle.rules.specs.Area.{AreaTurn}
 use Rattle.rules.specs.Engine.{call_on, run_on}

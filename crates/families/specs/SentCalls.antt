@@ -2,8 +2,7 @@
 -- Assumes nothing.
 use Rattle.std.specs.Prelude.{◌≡◌, true, List, ℕ, ℤ}
 use Rattle.schema.specs.Fields.{schema_of}
-use Rattle.rules.specs.declared.Answer.{Answer}
-use Rattle.rules.specs.Refusals.{accepted}
+use Rattle.rules.specs.Refusals.{Answer, accepted}
 use Rattle.rules.specs.Engine.{call_on}
 use Rattle.families.specs.EitherOrder.{Rollback, SameButRecords}
 

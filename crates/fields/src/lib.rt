@@ -2,7 +2,8 @@
 
 #![tactic(auto)]
 
-ghost use Rattle.std.specs.Prelude.{◌≡◌, false, suc, ◌+◌, ◌*◌, ◌≤◌, ◌<◌, pos, ltb, eqb, length, get_or, take};
+ghost use Rattle.std.specs.Prelude.{◌≡◌, Err, MatchResult, false, suc, ◌+◌, ◌*◌, ◌≤◌, ◌<◌, pos, ltb, eqb, length, get_or, take, MatchOption};
+ghost use Rattle.std.specs.Int.Count.{ones};
 ghost use Rattle.schema.specs.Bounds.{Within, Columns};
 ghost use Rattle.schema.specs.Records.{child_key, unique_columns, table_of, key_of};
 ghost use Rattle.schema.specs.Bytes;
@@ -12,207 +13,335 @@ ghost use Rattle.schema.specs.Fields;
 ghost use Rattle.schema.specs.Fields.{schema_of};
 ghost use Rattle.schema.specs.Sizes.{table_size, rows_size, rows_start, table_offset, area_size};
 ghost use Rattle.schema.specs.Check.{check_schema};
-ghost use Rattle.fields.specs.Masks.{HasOnes, SameMask};
+ghost use Rattle.fields.specs.Accepted.{IsAccepted, AcceptedBytes};
 
-use schema::{Action, Match, SchemaAnswer};
+use schema::{Action, Match, SchemaError};
+use std::marker::Model;
 
-// The number of tables.
-pub fn table_count(bytes: &[u8]) -> usize
-    requires { check_schema bytes.now ≡ SchemaAnswer.Accepted }
-    ensures { (result ≡ length (schema_of bytes.now).tables) × Within 1 16 result }
-{
-    numbers::half_at(bytes, 4)
+// Schema bytes that break no rule of refusal 1. Contracts see the bytes, and that they are accepted.
+#[derive(Drop)]
+pub struct Schema<'a> {
+    bytes: &'a [u8],
+    ghost accepted: { IsAccepted bytes.now },
 }
 
-// The number of foreign keys.
-pub fn key_count(bytes: &[u8]) -> usize
-    requires { check_schema bytes.now ≡ SchemaAnswer.Accepted }
-    ensures { (result ≡ length (schema_of bytes.now).keys) × (result ≤ 32) }
-{
-    numbers::half_at(bytes, 6)
+impl<'a> Model for Schema<'a> {
+    ghost Value = { AcceptedBytes };
+
+    ghost view = { λ s. record { bytes = s.bytes.now; accepted = s.accepted } };
 }
 
-// The journal room, in records.
-pub fn room(bytes: &[u8]) -> usize
-    requires { check_schema bytes.now ≡ SchemaAnswer.Accepted }
-    ensures { (result ≡ (schema_of bytes.now).room) × Within 1 4096 result }
-{
-    numbers::half_at(bytes, 12)
-}
-
-// ---- a table
-
-// Byte i of the record of table t.
-fn table_byte(bytes: &[u8], t: usize, i: usize) -> usize
-    requires { (check_schema bytes.now ≡ SchemaAnswer.Accepted) × ((t < length (schema_of bytes.now).tables) × (i < 80)) }
-    ensures { (result ≡ Bytes.byte bytes.now (Fields.table_start t + i)) × (result < 256) }
-{
-    numbers::byte_at(bytes, 16 + 80 * t + i)
-}
-
-// The rows of table t.
-pub fn rows(bytes: &[u8], t: usize) -> usize
-    requires { (check_schema bytes.now ≡ SchemaAnswer.Accepted) × (t < length (schema_of bytes.now).tables) }
-    ensures { (result ≡ (table_of (schema_of bytes.now) t).rows) × Within 1 1024 result }
-{
-    numbers::half_at(bytes, 16 + 80 * t)
-}
-
-// The columns of table t.
-pub fn columns(bytes: &[u8], t: usize) -> usize
-    requires { (check_schema bytes.now ≡ SchemaAnswer.Accepted) × (t < length (schema_of bytes.now).tables) }
-    ensures { (result ≡ (table_of (schema_of bytes.now) t).columns) × Within 1 8 result }
-{
-    table_byte(bytes, t, 2)
-}
-
-// Whether there is a table t that has a row r.
-pub fn is_in_table(bytes: &[u8], t: usize, r: usize) -> bool
-    requires { check_schema bytes.now ≡ SchemaAnswer.Accepted }
-    ensures { result ≡ ltb r (table_of (schema_of bytes.now) t).rows }
-{
-    if table_count(bytes) <= t {
-        return false;
+impl<'a> Schema<'a> {
+    // Bytes that are known to be accepted.
+    pub fn new(bytes: &'a [u8]) -> Schema<'a>
+        requires { IsAccepted bytes.now }
+        ensures { result.bytes ≡ bytes.now }
+    {
+        Schema { bytes }
     }
-    r < rows(bytes, t)
+
+    // The check of bytes: refusal 1.
+    pub fn check(bytes: &'a [u8]) -> Result<Schema<'a>, SchemaError>
+        ensures { MatchResult result (λ s. s.bytes ≡ bytes.now) (λ e. check_schema bytes.now ≡ Err e) }
+    {
+        schema_check::check_schema(bytes)?;
+        Ok(Schema { bytes })
+    }
 }
 
-// The NOT NULL mask of table t.
-pub fn not_null(bytes: &[u8], t: usize) -> usize
-    requires { (check_schema bytes.now ≡ SchemaAnswer.Accepted) × (t < length (schema_of bytes.now).tables) }
-    ensures { (result ≡ (table_of (schema_of bytes.now) t).not_null) × (result < 256) }
-{
-    table_byte(bytes, t, 3)
+impl Schema<'_> {
+    // The number of tables.
+    pub fn table_count(&self) -> usize
+        ensures { (result ≡ length (schema_of self.now.bytes).tables) × Within 1 16 result }
+    {
+        numbers::half_at(self.bytes, 4)
+    }
+
+    // The number of foreign keys.
+    pub fn key_count(&self) -> usize
+        ensures { (result ≡ length (schema_of self.now.bytes).keys) × (result ≤ 32) }
+    {
+        numbers::half_at(self.bytes, 6)
+    }
+
+    // The journal room, in records.
+    pub fn room(&self) -> usize
+        ensures { (result ≡ (schema_of self.now.bytes).room) × Within 1 4096 result }
+    {
+        numbers::half_at(self.bytes, 12)
+    }
+
+    // ---- a table: each field has a reader of its own, whose contract names the field
+
+    // Byte i of the record of table t.
+    fn table_byte(&self, t: usize, i: usize) -> usize
+        requires { (t < length (schema_of self.now.bytes).tables) × (i < 80) }
+        ensures { (result ≡ Bytes.byte self.now.bytes (Fields.table_start t + i)) × (result < 256) }
+    {
+        numbers::byte_at(self.bytes, 16 + 80 * t + i)
+    }
+
+    // The rows of table t.
+    pub fn rows(&self, t: usize) -> usize
+        requires { t < length (schema_of self.now.bytes).tables }
+        ensures { (result ≡ (table_of (schema_of self.now.bytes) t).rows) × Within 1 1024 result }
+    {
+        numbers::half_at(self.bytes, 16 + 80 * t)
+    }
+
+    // The columns of table t.
+    pub fn columns(&self, t: usize) -> usize
+        requires { t < length (schema_of self.now.bytes).tables }
+        ensures { (result ≡ (table_of (schema_of self.now.bytes) t).columns) × Within 1 8 result }
+    {
+        self.table_byte(t, 2)
+    }
+
+    // Whether there is a table t that has a row r.
+    pub fn is_in_table(&self, t: usize, r: usize) -> bool
+        ensures { result ≡ ltb r (table_of (schema_of self.now.bytes) t).rows }
+    {
+        t < self.table_count() && r < self.rows(t)
+    }
+
+    // The NOT NULL mask of table t.
+    pub fn not_null(&self, t: usize) -> usize
+        requires { t < length (schema_of self.now.bytes).tables }
+        ensures { (result ≡ (table_of (schema_of self.now.bytes) t).not_null) × (result < 256) }
+    {
+        self.table_byte(t, 3)
+    }
+
+    // Unique-key mask i of table t, 0 where the slot is unused.
+    pub fn unique_mask(&self, t: usize, i: usize) -> usize
+        requires { (t < length (schema_of self.now.bytes).tables) × (i < 4) }
+        ensures { (result ≡ get_or (table_of (schema_of self.now.bytes) t).uniques i 0) × (result < 256) }
+    {
+        self.table_byte(t, 4 + i)
+    }
+
+    // The default-is-NULL mask of table t.
+    pub fn default_null(&self, t: usize) -> usize
+        requires { t < length (schema_of self.now.bytes).tables }
+        ensures { (result ≡ (table_of (schema_of self.now.bytes) t).default_null) × (result < 256) }
+    {
+        self.table_byte(t, 8)
+    }
+
+    // The mask of folded columns of table t.
+    pub fn folded(&self, t: usize) -> usize
+        requires { t < length (schema_of self.now.bytes).tables }
+        ensures { (result ≡ (table_of (schema_of self.now.bytes) t).folded) × (result < 256) }
+    {
+        self.table_byte(t, 9)
+    }
+
+    // The default of column c of table t.
+    pub fn default_value(&self, t: usize, c: usize) -> i64
+        requires { (t < length (schema_of self.now.bytes).tables) × (c < 8) }
+        ensures { result ≡ get_or (table_of (schema_of self.now.bytes) t).defaults c (pos 0) }
+    {
+        numbers::signed_at(self.bytes, 16 + 80 * t + 16 + 8 * c)
+    }
+
+    // ---- a foreign key: each field has a reader of its own, whose contract names the field
+
+    // Byte i of the record of foreign key k.
+    fn key_byte(&self, k: usize, i: usize) -> usize
+        requires { (k < length (schema_of self.now.bytes).keys) × (i < 16) }
+        ensures { (result ≡ Bytes.byte self.now.bytes (Fields.key_start self.now.bytes k + i)) × (result < 256) }
+    {
+        numbers::byte_at(self.bytes, numbers::key_start(self.bytes, k) + i)
+    }
+
+    // The child table of foreign key k.
+    pub fn child(&self, k: usize) -> usize
+        requires { k < length (schema_of self.now.bytes).keys }
+        ensures { (result ≡ (key_of (schema_of self.now.bytes) k).child) × (result < length (schema_of self.now.bytes).tables) }
+    {
+        self.key_byte(k, 0)
+    }
+
+    // The parent table of foreign key k; of a broken one it need not be there.
+    pub fn parent(&self, k: usize) -> usize
+        requires { k < length (schema_of self.now.bytes).keys }
+        ensures { result ≡ (key_of (schema_of self.now.bytes) k).parent }
+    {
+        self.key_byte(k, 1)
+    }
+
+    // Whether foreign key k is deferred.
+    pub fn is_deferred(&self, k: usize) -> bool
+        requires { k < length (schema_of self.now.bytes).keys }
+        ensures { result ≡ (key_of (schema_of self.now.bytes) k).deferred }
+    {
+        self.key_byte(k, 2) == 1
+    }
+
+    // The on-delete action of foreign key k.
+    pub fn on_delete(&self, k: usize) -> Action
+        requires { k < length (schema_of self.now.bytes).keys }
+        ensures { result ≡ (key_of (schema_of self.now.bytes) k).on_delete }
+    {
+        action_of(self.key_byte(k, 3))
+    }
+
+    // The on-update action of foreign key k.
+    pub fn on_update(&self, k: usize) -> Action
+        requires { k < length (schema_of self.now.bytes).keys }
+        ensures { result ≡ (key_of (schema_of self.now.bytes) k).on_update }
+    {
+        action_of(self.key_byte(k, 4))
+    }
+
+    // The match of foreign key k.
+    pub fn key_match(&self, k: usize) -> Match
+        requires { k < length (schema_of self.now.bytes).keys }
+        ensures { result ≡ (key_of (schema_of self.now.bytes) k).match }
+    {
+        Match::try_from(self.key_byte(k, 14)).unwrap_or(Match::Simple)
+    }
+
+    // The number of columns of foreign key k.
+    pub fn width(&self, k: usize) -> usize
+        requires { k < length (schema_of self.now.bytes).keys }
+        ensures { (result ≡ length (child_key (key_of (schema_of self.now.bytes) k))) × Within 1 4 result }
+    {
+        self.key_byte(k, 5)
+    }
+
+    // How many windows foreign key k has: one where it is windowed. A number and no bool: the contract counts the windows.
+    pub fn windows(&self, k: usize) -> usize
+        requires { k < length (schema_of self.now.bytes).keys }
+        ensures { (result ≡ length (key_of (schema_of self.now.bytes) k).windows) × (result ≤ 1) }
+    {
+        self.key_byte(k, 15)
+    }
+
+    // The column behind the last of foreign key k's n parent columns: the end's, where the key is windowed.
+    fn end_column(&self, k: usize, n: usize) -> usize
+        requires { (k < length (schema_of self.now.bytes).keys) × (n ≡ length (child_key (key_of (schema_of self.now.bytes) k))) }
+        ensures { result ≡ Fields.end_of self.now.bytes k }
+    {
+        self.key_byte(k, 9 + n) + 1
+    }
+
+    // The four child-column bytes of foreign key k, whose columns come first, and four zeros.
+    pub fn child_columns(&self, k: usize) -> [usize; 8]
+        requires { k < length (schema_of self.now.bytes).keys }
+        ensures { (take (length (child_key (key_of (schema_of self.now.bytes) k))) result ≡ child_key (key_of (schema_of self.now.bytes) k)) × Columns (suc (table_of (schema_of self.now.bytes) (key_of (schema_of self.now.bytes) k).child).columns) (length (child_key (key_of (schema_of self.now.bytes) k))) result }
+    {
+        columns_at(self.bytes, numbers::key_start(self.bytes, k) + 6)
+    }
+
+    // The four parent-column bytes of foreign key k, which is not broken: its columns come first, and four zeros.
+    pub fn parent_columns(&self, k: usize) -> [usize; 8]
+        requires { (k < length (schema_of self.now.bytes).keys) × ((key_of (schema_of self.now.bytes) k).broken ≡ false) }
+        ensures { (take (length (unique_columns (key_of (schema_of self.now.bytes) k))) result ≡ unique_columns (key_of (schema_of self.now.bytes) k)) × Columns (suc (table_of (schema_of self.now.bytes) (key_of (schema_of self.now.bytes) k).parent).columns) (length (unique_columns (key_of (schema_of self.now.bytes) k))) result }
+    {
+        columns_at(self.bytes, numbers::key_start(self.bytes, k) + 10)
+    }
+
+    // ---- broken keys
+
+    // The mask of foreign key k's n parent columns; there is none where a column is above 7.
+    fn parent_mask(&self, k: usize, n: usize) -> Option<usize>
+        requires { (k < length (schema_of self.now.bytes).keys) × (n ≡ length (child_key (key_of (schema_of self.now.bytes) k))) }
+        ensures { MatchOption result (256 ≤ column_mask (Fields.parent_column_of self.now.bytes k) (Fields.width_of self.now.bytes k)) (λ m. m ≡ column_mask (Fields.parent_column_of self.now.bytes k) (Fields.width_of self.now.bytes k)) }
+    {
+        let mut mask = 0;
+        for i in 0..n {
+            let c = self.key_byte(k, 10 + i);
+            if 8 <= c {
+                return None;
+            }
+            mask += numbers::power(c);
+        }
+        Some(mask)
+    }
+
+    // Whether table t has a unique key with the mask m of n columns.
+    fn has_unique(&self, t: usize, n: usize, m: usize) -> bool
+        requires { (t < length (schema_of self.now.bytes).tables) × (ones m ≡ n) }
+        ensures { result ≡ any_from (λ i. eqb (Fields.unique_of self.now.bytes t i) m) 4 0 }
+    {
+        (0..4).any(|i| mask_is(self.unique_mask(t, i), n, m))
+    }
+
+    // Whether foreign key k of n columns, where it is windowed, has its end: a column of the parent table t that is not in the
+    // mask m of the parent columns.
+    fn has_end(&self, k: usize, t: usize, n: usize, m: usize) -> bool
+        requires { ((k < length (schema_of self.now.bytes).keys)) × (((t < length (schema_of self.now.bytes).tables) × (t ≡ Fields.parent_of self.now.bytes k)) × ((n ≡ length (child_key (key_of (schema_of self.now.bytes) k))) × (m ≡ column_mask (Fields.parent_column_of self.now.bytes k) (Fields.width_of self.now.bytes k)))) }
+        ensures { result ≡ Fields.has_end self.now.bytes k }
+    {
+        if self.windows(k) == 0 {
+            return true;
+        }
+        let end = self.end_column(k, n);
+        end < self.columns(t) && !numbers::bit_of(end, m)
+    }
+
+    // Whether foreign key k is broken.
+    pub fn is_broken(&self, k: usize) -> bool
+        requires { k < length (schema_of self.now.bytes).keys }
+        ensures { result ≡ (key_of (schema_of self.now.bytes) k).broken }
+    {
+        let t = self.parent(k);
+        let tables = self.table_count();
+        if tables <= t {
+            return true;
+        }
+        let n = self.width(k);
+        match self.parent_mask(k, n) {
+            None => true,
+            Some(m) => !(self.has_unique(t, n, m) && self.has_end(k, t, n, m)),
+        }
+    }
+
+    // ---- the area
+
+    // The words of table t's rows.
+    pub fn table_words(&self, t: usize) -> usize
+        requires { t < length (schema_of self.now.bytes).tables }
+        ensures { (result ≡ table_size (table_of (schema_of self.now.bytes) t)) × (result ≤ 9216) }
+    {
+        let n = self.rows(t);
+        let m = self.columns(t);
+        n * (m + 1)
+    }
+
+    // The first word of table t's rows; of the journal, where t is the number of tables.
+    pub fn start_of(&self, t: usize) -> usize
+        requires { t ≤ length (schema_of self.now.bytes).tables }
+        ensures { (result ≡ table_offset (schema_of self.now.bytes) t) × (result ≤ 333 + 9216 * t) }
+    {
+        let mut at = 333;
+        for i in 0..t {
+            at += self.table_words(i);
+        }
+        at
+    }
+
+    // The first word of the journal.
+    pub fn journal_start(&self) -> usize
+        ensures { (result ≡ rows_start + rows_size (schema_of self.now.bytes).tables) × (result ≤ 333 + 9216 * 16) }
+    {
+        self.start_of(self.table_count())
+    }
+
+    // The length of the area.
+    pub fn area_length(&self) -> usize
+        ensures { (result ≡ area_size (schema_of self.now.bytes)) × (result < 188750) }
+    {
+        self.journal_start() + self.room() * 10
+    }
 }
 
-// Unique-key mask i of table t, 0 where the slot is unused.
-pub fn unique_mask(bytes: &[u8], t: usize, i: usize) -> usize
-    requires { (check_schema bytes.now ≡ SchemaAnswer.Accepted) × ((t < length (schema_of bytes.now).tables) × (i < 4)) }
-    ensures { (result ≡ get_or (table_of (schema_of bytes.now) t).uniques i 0) × (result < 256) }
-{
-    table_byte(bytes, t, 4 + i)
-}
-
-// The default-is-NULL mask of table t.
-pub fn default_null(bytes: &[u8], t: usize) -> usize
-    requires { (check_schema bytes.now ≡ SchemaAnswer.Accepted) × (t < length (schema_of bytes.now).tables) }
-    ensures { (result ≡ (table_of (schema_of bytes.now) t).default_null) × (result < 256) }
-{
-    table_byte(bytes, t, 8)
-}
-
-// The mask of folded columns of table t.
-pub fn folded(bytes: &[u8], t: usize) -> usize
-    requires { (check_schema bytes.now ≡ SchemaAnswer.Accepted) × (t < length (schema_of bytes.now).tables) }
-    ensures { (result ≡ (table_of (schema_of bytes.now) t).folded) × (result < 256) }
-{
-    table_byte(bytes, t, 9)
-}
-
-// The default of column c of table t.
-pub fn default_value(bytes: &[u8], t: usize, c: usize) -> i64
-    requires { (check_schema bytes.now ≡ SchemaAnswer.Accepted) × ((t < length (schema_of bytes.now).tables) × (c < 8)) }
-    ensures { result ≡ get_or (table_of (schema_of bytes.now) t).defaults c (pos 0) }
-{
-    numbers::signed_at(bytes, 16 + 80 * t + 16 + 8 * c)
-}
-
-// ---- a foreign key
-
-// Byte i of the record of foreign key k.
-fn key_byte(bytes: &[u8], k: usize, i: usize) -> usize
-    requires { (check_schema bytes.now ≡ SchemaAnswer.Accepted) × ((k < length (schema_of bytes.now).keys) × (i < 16)) }
-    ensures { (result ≡ Bytes.byte bytes.now (Fields.key_start bytes.now k + i)) × (result < 256) }
-{
-    numbers::byte_at(bytes, numbers::key_start(bytes, k) + i)
-}
-
-// The child table of foreign key k.
-pub fn child(bytes: &[u8], k: usize) -> usize
-    requires { (check_schema bytes.now ≡ SchemaAnswer.Accepted) × (k < length (schema_of bytes.now).keys) }
-    ensures { (result ≡ (key_of (schema_of bytes.now) k).child) × (result < length (schema_of bytes.now).tables) }
-{
-    key_byte(bytes, k, 0)
-}
-
-// The parent table of foreign key k; of a broken one it need not be there.
-pub fn parent(bytes: &[u8], k: usize) -> usize
-    requires { (check_schema bytes.now ≡ SchemaAnswer.Accepted) × (k < length (schema_of bytes.now).keys) }
-    ensures { result ≡ (key_of (schema_of bytes.now) k).parent }
-{
-    key_byte(bytes, k, 1)
-}
-
-// Whether foreign key k is deferred.
-pub fn is_deferred(bytes: &[u8], k: usize) -> bool
-    requires { (check_schema bytes.now ≡ SchemaAnswer.Accepted) × (k < length (schema_of bytes.now).keys) }
-    ensures { result ≡ (key_of (schema_of bytes.now) k).deferred }
-{
-    key_byte(bytes, k, 2) == 1
-}
-
-// The action of a code: 0 NO ACTION, 1 RESTRICT, 2 SET NULL, 3 SET DEFAULT, 4 CASCADE; the check refuses the others.
+// The action of a code; the check refuses a code of none.
 pub fn action_of(code: usize) -> Action
     ensures { result ≡ Fields.action_from code }
 {
-    match code {
-        1 => Action::Restrict,
-        2 => Action::SetNull,
-        3 => Action::SetDefault,
-        4 => Action::Cascade,
-        _ => Action::NoAction,
-    }
-}
-
-// The on-delete action of foreign key k.
-pub fn on_delete(bytes: &[u8], k: usize) -> Action
-    requires { (check_schema bytes.now ≡ SchemaAnswer.Accepted) × (k < length (schema_of bytes.now).keys) }
-    ensures { result ≡ (key_of (schema_of bytes.now) k).on_delete }
-{
-    action_of(key_byte(bytes, k, 3))
-}
-
-// The on-update action of foreign key k.
-pub fn on_update(bytes: &[u8], k: usize) -> Action
-    requires { (check_schema bytes.now ≡ SchemaAnswer.Accepted) × (k < length (schema_of bytes.now).keys) }
-    ensures { result ≡ (key_of (schema_of bytes.now) k).on_update }
-{
-    action_of(key_byte(bytes, k, 4))
-}
-
-// The match of foreign key k.
-pub fn key_match(bytes: &[u8], k: usize) -> Match
-    requires { (check_schema bytes.now ≡ SchemaAnswer.Accepted) × (k < length (schema_of bytes.now).keys) }
-    ensures { result ≡ (key_of (schema_of bytes.now) k).match }
-{
-    match key_byte(bytes, k, 14) {
-        1 => Match::Full,
-        _ => Match::Simple,
-    }
-}
-
-// The number of columns of foreign key k.
-pub fn width(bytes: &[u8], k: usize) -> usize
-    requires { (check_schema bytes.now ≡ SchemaAnswer.Accepted) × (k < length (schema_of bytes.now).keys) }
-    ensures { (result ≡ length (child_key (key_of (schema_of bytes.now) k))) × Within 1 4 result }
-{
-    key_byte(bytes, k, 5)
-}
-
-// How many windows foreign key k has: one where it is windowed.
-pub fn windows(bytes: &[u8], k: usize) -> usize
-    requires { (check_schema bytes.now ≡ SchemaAnswer.Accepted) × (k < length (schema_of bytes.now).keys) }
-    ensures { (result ≡ length (key_of (schema_of bytes.now) k).windows) × (result ≤ 1) }
-{
-    key_byte(bytes, k, 15)
-}
-
-// The column behind the last of foreign key k's n parent columns: the end's, where the key is windowed.
-fn end_column(bytes: &[u8], k: usize, n: usize) -> usize
-    requires { (check_schema bytes.now ≡ SchemaAnswer.Accepted) × ((k < length (schema_of bytes.now).keys) × (n ≡ length (child_key (key_of (schema_of bytes.now) k)))) }
-    ensures { result ≡ Fields.end_of bytes.now k }
-{
-    key_byte(bytes, k, 9 + n) + 1
+    Action::try_from(code).unwrap_or(Action::NoAction)
 }
 
 // The four bytes from p on, and four zeros.
@@ -232,140 +361,10 @@ fn columns_at(bytes: &[u8], p: usize) -> [usize; 8]
     ]
 }
 
-// The four child-column bytes of foreign key k, whose columns come first, and four zeros.
-pub fn child_columns(bytes: &[u8], k: usize) -> [usize; 8]
-    requires { (check_schema bytes.now ≡ SchemaAnswer.Accepted) × (k < length (schema_of bytes.now).keys) }
-    ensures { (take (length (child_key (key_of (schema_of bytes.now) k))) result ≡ child_key (key_of (schema_of bytes.now) k)) × Columns (suc (table_of (schema_of bytes.now) (key_of (schema_of bytes.now) k).child).columns) (length (child_key (key_of (schema_of bytes.now) k))) result }
-{
-    columns_at(bytes, numbers::key_start(bytes, k) + 6)
-}
-
-// The four parent-column bytes of foreign key k, which is not broken: its columns come first, and four zeros.
-pub fn parent_columns(bytes: &[u8], k: usize) -> [usize; 8]
-    requires { (check_schema bytes.now ≡ SchemaAnswer.Accepted) × ((k < length (schema_of bytes.now).keys) × ((key_of (schema_of bytes.now) k).broken ≡ false)) }
-    ensures { (take (length (unique_columns (key_of (schema_of bytes.now) k))) result ≡ unique_columns (key_of (schema_of bytes.now) k)) × Columns (suc (table_of (schema_of bytes.now) (key_of (schema_of bytes.now) k).parent).columns) (length (unique_columns (key_of (schema_of bytes.now) k))) result }
-{
-    columns_at(bytes, numbers::key_start(bytes, k) + 10)
-}
-
-// ---- broken keys
-
-// The mask of foreign key k's n parent columns; 256, which is no mask, where one of them is above 7.
-fn parent_mask(bytes: &[u8], k: usize, n: usize) -> usize
-    requires { (check_schema bytes.now ≡ SchemaAnswer.Accepted) × ((k < length (schema_of bytes.now).keys) × (n ≡ length (child_key (key_of (schema_of bytes.now) k)))) }
-    ensures { SameMask result (column_mask (Fields.parent_column_of bytes.now k) (Fields.width_of bytes.now k)) }
-{
-    let mut m = 0;
-    let mut i = 0;
-    while i < n {
-        let c = key_byte(bytes, k, 10 + i);
-        if 8 <= c {
-            return 256;
-        }
-        m += numbers::power(c);
-        i += 1;
-    }
-    m
-}
-
 // Whether a unique key's mask is the mask m of n columns: it has as many ones, and is m.
 fn mask_is(u: usize, n: usize, m: usize) -> bool
-    requires { (u < 256) × HasOnes n m }
+    requires { (u < 256) × (ones m ≡ n) }
     ensures { result ≡ eqb u m }
 {
-    if numbers::ones_of(u) != n {
-        return false;
-    }
-    u == m
-}
-
-// Whether table t has a unique key with the mask m of n columns.
-fn has_unique(bytes: &[u8], t: usize, n: usize, m: usize) -> bool
-    requires { (check_schema bytes.now ≡ SchemaAnswer.Accepted) × ((t < length (schema_of bytes.now).tables) × HasOnes n m) }
-    ensures { result ≡ any_from (λ i. eqb (Fields.unique_of bytes.now t i) m) 4 0 }
-{
-    let mut i = 0;
-    while i < 4 {
-        if mask_is(unique_mask(bytes, t, i), n, m) {
-            return true;
-        }
-        i += 1;
-    }
-    false
-}
-
-// Whether foreign key k of n columns, where it is windowed, has its end: a column of the parent table t that is not in the
-// mask m of the parent columns.
-fn has_end(bytes: &[u8], k: usize, t: usize, n: usize, m: usize) -> bool
-    requires { ((check_schema bytes.now ≡ SchemaAnswer.Accepted) × (k < length (schema_of bytes.now).keys)) × (((t < length (schema_of bytes.now).tables) × (t ≡ Fields.parent_of bytes.now k)) × ((n ≡ length (child_key (key_of (schema_of bytes.now) k))) × (m ≡ column_mask (Fields.parent_column_of bytes.now k) (Fields.width_of bytes.now k)))) }
-    ensures { result ≡ Fields.has_end bytes.now k }
-{
-    if windows(bytes, k) == 0 {
-        return true;
-    }
-    let end = end_column(bytes, k, n);
-    if columns(bytes, t) <= end {
-        return false;
-    }
-    !numbers::bit_of(end, m)
-}
-
-// Whether foreign key k is broken.
-pub fn is_broken(bytes: &[u8], k: usize) -> bool
-    requires { (check_schema bytes.now ≡ SchemaAnswer.Accepted) × (k < length (schema_of bytes.now).keys) }
-    ensures { result ≡ (key_of (schema_of bytes.now) k).broken }
-{
-    let t = parent(bytes, k);
-    let tables = table_count(bytes);
-    if tables <= t {
-        return true;
-    }
-    let n = width(bytes, k);
-    let m = parent_mask(bytes, k, n);
-    if !has_unique(bytes, t, n, m) {
-        return true;
-    }
-    !has_end(bytes, k, t, n, m)
-}
-
-// ---- the area
-
-// The words of table t's rows.
-pub fn table_words(bytes: &[u8], t: usize) -> usize
-    requires { (check_schema bytes.now ≡ SchemaAnswer.Accepted) × (t < length (schema_of bytes.now).tables) }
-    ensures { (result ≡ table_size (table_of (schema_of bytes.now) t)) × (result ≤ 9216) }
-{
-    let n = rows(bytes, t);
-    let m = columns(bytes, t);
-    n * (m + 1)
-}
-
-// The first word of table t's rows; of the journal, where t is the number of tables.
-pub fn start_of(bytes: &[u8], t: usize) -> usize
-    requires { (check_schema bytes.now ≡ SchemaAnswer.Accepted) × (t ≤ length (schema_of bytes.now).tables) }
-    ensures { (result ≡ table_offset (schema_of bytes.now) t) × (result ≤ 333 + 9216 * t) }
-{
-    let mut at = 333;
-    let mut i = 0;
-    while i < t {
-        at += table_words(bytes, i);
-        i += 1;
-    }
-    at
-}
-
-// The first word of the journal.
-pub fn journal_start(bytes: &[u8]) -> usize
-    requires { check_schema bytes.now ≡ SchemaAnswer.Accepted }
-    ensures { (result ≡ rows_start + rows_size (schema_of bytes.now).tables) × (result ≤ 333 + 9216 * 16) }
-{
-    start_of(bytes, table_count(bytes))
-}
-
-// The length of the area.
-pub fn area_length(bytes: &[u8]) -> usize
-    requires { check_schema bytes.now ≡ SchemaAnswer.Accepted }
-    ensures { (result ≡ area_size (schema_of bytes.now)) × (result < 188750) }
-{
-    journal_start(bytes) + room(bytes) * 10
+    numbers::ones_of(u) == n && u == m
 }

@@ -3,24 +3,12 @@
 #![tactic(auto)]
 
 ghost use Rattle.std.specs.Prelude.{◌≡◌};
-ghost use Rattle.std.specs.Int.{w64};
-ghost use Rattle.std.proofs.Common.{of_z};
 ghost use Rattle.rules.specs.Values.{raised, each_byte, folded};
 ghost use Rattle.folding.specs.Masks.{masked, first_mask};
 
-// The 64 bits of a word in two's complement.
-fn bits_of(w: i64) -> usize
-    ensures { result ≡ of_z w64 w }
-{
-    if w < 0 {
-        return ((w & 0x7fff_ffff_ffff_ffff) as usize) + 0x8000_0000_0000_0000;
-    }
-    w as usize
-}
-
 // The bits with 41 to 5A (hexadecimal) raised by 20 in each byte. Bit 7 of y + 3F says that a byte without its own bit 7
 // is 41 or more, bit 7 of y + 25 that it is above 5A.
-fn fold_bits(n: usize) -> usize
+fn fold_bits(n: u64) -> u64
     ensures { result ≡ each_byte raised 8 n }
 {
     let y = n & 0x7f7f_7f7f_7f7f_7f7f;
@@ -35,10 +23,11 @@ fn fold_bits(n: usize) -> usize
 pub fn compared(f: bool, w: i64) -> i64
     ensures { result ≡ folded f w }
 {
-    if !f {
-        return w;
+    if f {
+        fold_bits(w.cast_unsigned()).cast_signed()
+    } else {
+        w
     }
-    numbers::signed(fold_bits(bits_of(w)))
 }
 
 // ---- what a search looks at first
@@ -47,10 +36,7 @@ pub fn compared(f: bool, w: i64) -> i64
 pub fn first_mask(f: bool) -> i64
     ensures { result ≡ first_mask f }
 {
-    if f {
-        return -0x2020_2020_2020_2021;
-    }
-    -1
+    if f { -0x2020_2020_2020_2021 } else { -1 }
 }
 
 // The bits of a word that a mask has.

@@ -1,6 +1,7 @@
 -- Rows that are found, and what they are given.
 -- Assumes nothing.
-use Rattle.std.specs.Prelude.{◌≡◌, Bool, true, cond, ◌&&◌, List, ◌∷◌, ℕ, ◌<◌, ltb, ℤ, length, get_or, replicate}
+use Rattle.std.specs.Prelude.{◌≡◌, Bool, true, cond, ◌&&◌, None, Some, List, ◌∷◌, ℕ, suc, ◌<◌, ltb, ℤ, length, replicate}
+use Rattle.std.specs.Option.{is_none, unwrap_or}
 use Rattle.schema.specs.Bytes.{bit}
 use Rattle.schema.specs.Records.{Schema, table_of}
 use Rattle.schema.specs.Fields.{schema_of}
@@ -15,12 +16,18 @@ use Rattle.rows.specs.Sought.{has_sought, SoughtIn}
 use Rattle.rows.specs.Standing.{RowsOf}
 use Rattle.found.specs.declared.Cell.{Cell}
 use Rattle.found.specs.declared.Seeking.{Seeking}
+use Rattle.found.specs.declared.Sought.{Sought}
+use Rattle.found.specs.declared.Sought.TheVariants.{Null, Key}
 use Rattle.found.specs.declared.Given.{Given}
 use Rattle.found.specs.declared.Given.TheVariants.{Deleted, Set}
 
+-- a column with a NULL mark and a value, which is not looked at where the mark says NULL
+unfoldable pub cell_with : ℕ → Bool → ℤ → Cell
+cell_with c null v = record { column = c; value = cond null None (Some v) }
+
 -- a row that is found, in a table with these folded columns
 unfoldable pub found_row : ℕ → Cell → Row → Bool
-found_row folded sought = is_found folded sought.column sought.null sought.value
+found_row folded sought = is_found folded sought.column (is_none sought.value) (unwrap_or sought.value 𝟘)
 
 -- a row, live or not, whose column c is NULL
 unfoldable pub null_in : ℕ → Row → Bool
@@ -30,9 +37,14 @@ null_in c row = null_at row c
 unfoldable pub has_null : ℕ → Row → Bool
 has_null c row = live row && null_in c row
 
+-- a live row that has what is sought
+unfoldable pub has : Sought → Row → Bool
+has (Null c) = has_null c
+has (Key key) = has_sought key
+
 -- a row that is found by what its table is searched by
 unfoldable pub found_by : Seeking → Row → Bool
-found_by x row = cond x.null (has_null (get_or x.key.cs 0 0) row) (has_sought x.key row)
+found_by x = has x.sought
 
 -- row j of table t is one
 unfoldable pub found_at : Seeking → ℕ → Tables → ℕ → Bool
@@ -48,10 +60,14 @@ value_key mask c v =
       vs = folded (bit c mask) v ∷ replicate 7 𝟘;
     }
 
--- rows can be searched by it: it has a key of one column, which they have
+-- what is sought is in rows of w words: a column, or a key of one column
+abbrev pub HasColumn : ℕ → Sought → Type 0
+HasColumn w (Null c) = suc c < w
+HasColumn w (Key key) = (key.n ≡ 1) × SoughtIn w key
+
+-- rows can be searched by it
 pub record Seekable (x : Seeking) : Type 0 where
-  pub one_column : x.key.n ≡ 1
-  pub key : SoughtIn x.rows.width x.key
+  pub column : HasColumn x.rows.width x.sought
 
 -- its rows are those of table t
 pub record Seeks (b : List ℕ) (t : ℕ) (x : Seeking) : Type 0 where
@@ -67,7 +83,7 @@ pub record SeekingOf (b : List ℕ) (t : ℕ) (sought : Cell) (x : Seeking) : Ty
 -- the image that a row of so many columns is given
 unfoldable pub given_image : ℕ → Given → Row → Row
 given_image columns Deleted x = deleted_image
-given_image columns (Set cell) x = row_set columns cell.column cell.null cell.value x
+given_image columns (Set cell) x = row_set columns cell.column (is_none cell.value) (unwrap_or cell.value 𝟘) x
 
 -- a column that is set is one of so many
 unfoldable pub sets_in : ℕ → Given → Bool

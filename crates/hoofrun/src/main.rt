@@ -7,18 +7,12 @@ ghost use Rattle.std.specs.Io.{ReadsAtMost};
 ghost use Rattle.laws.specs.Reached.{Reached};
 ghost use Rattle.call_lines.specs.Runs.{call_count, after};
 
+use lines::Text;
 use reports::Progress;
 use rules::Answer;
 use run_tally::Tally;
 use std::io;
 use std::io::{Read, Write};
-
-// A piece of the input: how many bytes were read, and the tally after it.
-#[derive(Clone, Copy)]
-struct Piece {
-    read: usize,
-    tally: Tally,
-}
 
 // 65,536 zeros. The contract gives their number alone.
 fn large_buffer() -> [u8; 65536]
@@ -28,7 +22,7 @@ fn large_buffer() -> [u8; 65536]
 }
 
 // Reads until the buffer is full or the input ends; answers how many bytes it put at the start.
-// A read that fails ends it with that read's error.
+// A read that fails ends it with that read's error. Each read says how far the next begins, so no range counts them.
 fn read_full(reader: &mut impl Read, bytes: &mut [u8]) -> io::Result<usize>
     ensures { ReadsAtMost result bytes.new }
 {
@@ -49,7 +43,7 @@ fn read_schema(reader: &mut impl Read, bytes: &mut [u8]) -> io::Result<usize>
     ensures ok { IfOk result (λ n. n ≤ length bytes.old) }
     ensures err { OnErr result (length bytes.new ≡ length bytes.old) }
 {
-    let header = read_full(reader, &mut bytes[0..16])?;
+    let header = read_full(reader, &mut bytes[..16])?;
     if header < 16 {
         return Ok(header);
     }
@@ -61,91 +55,54 @@ fn read_schema(reader: &mut impl Read, bytes: &mut [u8]) -> io::Result<usize>
     Ok(16 + rest)
 }
 
-// Prints the first n bytes of the buffer.
-fn print(writer: &mut impl Write, out: &[u8], n: usize) -> io::Result<()>
-    requires { n ≤ length out.now }
-{
-    writer.write_all(&out[0..n])
+// A run: the schema, an area, the tally and the lines of a piece. That calls led to the area stands in the clauses: `Reached`
+// says by which calls, so it is no proposition and no ghost field.
+#[derive(Drop)]
+struct Run<'a> {
+    schema: &'a [u8],
+    area: &'a mut [i64],
+    progress: Progress<'a>,
+    ghost room: { 65536 ≤ length progress.text.out.now },
 }
 
-// Reads a piece of the calls, runs it and prints its lines.
-// After an error the area is where the calls of the first n bytes lead: of none where the read failed,
-// of all that were read where the write did.
-fn run_piece(
-    reader: &mut impl Read,
-    writer: &mut impl Write,
-    schema: &[u8],
-    area: &mut [i64],
-    input: &mut [u8],
-    out: &mut [u8],
-    tally: Tally,
-) -> io::Result<Piece>
-    requires { Reached schema.now area.old × (64 * call_count (length input.old) ≤ length out.old) }
-    ensures ok { IfOk result
-        (λ piece. (area.new, piece.tally) ≡ after schema.now (take piece.read input.new) area.old tally) }
-    ensures err { OnErr result
-        ((n : ℕ) × (area.new ≡ (after schema.now (take n input.new) area.old tally).0)) }
-    ensures reached { Reached schema.now area.new }
-{
-    let n = read_full(reader, input)?;
-    let begun = Progress {
-        tally: tally,
-        used: 0,
-    };
-    let progress = call_lines::run_calls(schema, area, &input[0..n], out, begun);
-    let used = progress.used;
-    let counted = progress.tally;
-    print(writer, out, used)?;
-    Ok(Piece {
-        read: n,
-        tally: counted,
-    })
-}
-
-// Runs the calls piece by piece until the input ends: at a piece that is not full.
-fn run_input(
-    reader: &mut impl Read,
-    writer: &mut impl Write,
-    schema: &[u8],
-    area: &mut [i64],
-    input: &mut [u8],
-    out: &mut [u8],
-    tally: Tally,
-) -> io::Result<Tally>
-    requires { Reached schema.now area.old × (64 * call_count (length input.old) ≤ length out.old) }
-    ensures { Reached schema.now area.new }
-{
-    let full = input.len();
-    let mut piece = Piece {
-        read: full,
-        tally: tally,
-    };
-    let mut left = u64::MAX;
-    while left > 0 && piece.read == full {
-        let counted = piece.tally;
-        piece = run_piece(reader, writer, schema, area, input, out, counted)?;
-        left -= 1;
+impl Run<'_> {
+    // Reads a piece of the calls, runs it and prints its lines; answers how many bytes it read.
+    // After an error the area is where the calls of the first n bytes lead: of none where the read failed,
+    // of all that were read where the write did.
+    fn run_piece(
+        &mut self,
+        reader: &mut impl Read,
+        writer: &mut impl Write,
+        input: &mut [u8],
+    ) -> io::Result<usize>
+        requires { Reached self.old.schema.now self.old.area.now × (64 * call_count (length input.old) ≤ 65536) }
+        ensures ok { IfOk result
+            (λ n. (self.new.area.now, self.new.progress.tally) ≡ after self.old.schema.now (take n input.new) self.old.area.now self.old.progress.tally) }
+        ensures err { OnErr result
+            ((n : ℕ) × (self.new.area.now ≡ (after self.old.schema.now (take n input.new) self.old.area.now self.old.progress.tally).0)) }
+        ensures reached { Reached self.new.schema.now self.new.area.now }
+    {
+        let n = read_full(reader, input)?;
+        self.progress.text.used = 0;
+        call_lines::run_calls(self.schema, self.area, &input[..n], &mut self.progress);
+        writer.write_all(self.progress.text.as_bytes())?;
+        Ok(n)
     }
-    Ok(piece.tally)
-}
 
-// Prints the line of a refused schema.
-fn refuse(
-    writer: &mut impl Write,
-    out: &mut [u8],
-    tally: Tally,
-    answer: Answer,
-) -> io::Result<Tally>
-    requires { 64 ≤ length out.old }
-{
-    let begun = Progress {
-        tally: tally,
-        used: 0,
-    };
-    let progress = reports::report(out, begun, answer);
-    let used = progress.used;
-    print(writer, out, used)?;
-    Ok(progress.tally)
+    // Runs the calls piece by piece until the input ends: at a piece that is not full.
+    fn run_input(&mut self, reader: &mut impl Read, writer: &mut impl Write) -> io::Result<Tally>
+        requires { Reached self.old.schema.now self.old.area.now }
+        ensures { Reached self.new.schema.now self.new.area.now }
+    {
+        let mut input = [0u8; 65472];
+        for _ in 0..u64::MAX {
+            let n = self.run_piece(reader, writer, &mut input)?;
+            if n < input.len() {
+                break;
+            }
+        }
+        Ok(self.progress.tally)
+    }
 }
 
 // Makes the area fresh and runs the calls, or refuses the schema.
@@ -155,36 +112,32 @@ fn run_area(
     schema: &[u8],
     area: &mut [i64],
     out: &mut [u8],
-    tally: Tally,
 ) -> io::Result<Tally>
     requires { 65536 ≤ length out.old }
 {
+    let mut progress = Progress {
+        tally: Tally::default(),
+        text: Text { out, used: 0 },
+    };
     let answer = fresh_area::make_fresh(schema, area);
     match answer {
-        Answer::Done(_, _) => {
-            let mut input = [0u8; 65472];
-            run_input(reader, writer, schema, area, &mut input, out, tally)
+        Ok(_) => {
+            let mut run = Run {
+                schema,
+                area,
+                progress,
+            };
+            run.run_input(reader, writer)
         }
-        Answer::Refused(_) => refuse(writer, out, tally, answer),
+        Err(_) => {
+            progress.report(answer);
+            writer.write_all(progress.text.as_bytes())?;
+            Ok(progress.tally)
+        }
     }
 }
 
-// Runs the input on as many of the words as the schema needs.
-fn run(
-    reader: &mut impl Read,
-    writer: &mut impl Write,
-    schema: &[u8],
-    words: &mut [i64],
-    out: &mut [u8],
-    tally: Tally,
-) -> io::Result<Tally>
-    requires { 65536 ≤ length out.old }
-{
-    let n = fresh_area::words_taken(schema, words.len());
-    run_area(reader, writer, schema, &mut words[0..n], out, tally)
-}
-
-// Heading, schema, calls, tally.
+// Heading, schema, calls, tally: on as many of the words as the schema needs.
 fn main(rt: HostRuntime) -> io::Result<()> {
     let mut bytes = large_buffer();
     let mut words = [0i64; 8192];
@@ -193,19 +146,13 @@ fn main(rt: HostRuntime) -> io::Result<()> {
     let mut writer = rt.stdout();
     writer.write_all(b"code,changed,net\n")?;
     let length = read_schema(&mut reader, &mut bytes)?;
-    let none = Tally {
-        accepted: 0,
-        refused: 0,
-        rows: 0,
+    let schema = &bytes[..length];
+    let n = fresh_area::words_taken(schema, words.len());
+    let tally = run_area(&mut reader, &mut writer, schema, &mut words[..n], &mut out)?;
+    let mut text = Text {
+        out: &mut out,
+        used: 0,
     };
-    let tally = run(
-        &mut reader,
-        &mut writer,
-        &bytes[0..length],
-        &mut words,
-        &mut out,
-        none,
-    )?;
-    let used = lines::put_tally_line(&mut out, 0, tally.accepted, tally.refused, tally.rows);
-    print(&mut writer, &out, used)
+    text.put_tally_line(tally);
+    writer.write_all(text.as_bytes())
 }

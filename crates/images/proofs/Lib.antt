@@ -1,2 +1,3 @@
 pub mod MaskLaws
 pub mod ImageLaws
+pub mod AlikeLaws

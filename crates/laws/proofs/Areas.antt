@@ -8,9 +8,8 @@ use lib.Dec.{eqb, eqb_refl}
 use lib.IntN.{ℤ}
 use Rattle.schema.specs.Records.{Schema}
 use Rattle.schema.specs.Sizes.{area_size}
-use Rattle.schema.specs.declared.SchemaAnswer.TheVariants.{Accepted}
+use Rattle.schema.specs.Check.{Accepted, check_schema}
 use Rattle.schema.specs.Fields.{schema_of}
-use Rattle.schema.specs.Check.{check_schema}
 use Rattle.schema.proofs.SchemaLaws.{Valid}
 use Rattle.rules.specs.declared.Refusal.TheVariants.{BadCall, Damaged}
 use Rattle.rules.specs.Book.{Book}

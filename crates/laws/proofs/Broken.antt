@@ -7,10 +7,9 @@ use Prim.Native.Nat.{ℕ, zero, suc, ◌-◌, ◌<◌}
 use native.Mathlib.Omega.{arith}
 use lib.IntN.{ℤ, pos}
 use lib.ListN.{length, get_or, replicate, length-map, get_or-append}
-use Rattle.schema.specs.declared.SchemaAnswer.TheVariants.{Accepted}
+use Rattle.schema.specs.Check.{Accepted, check_schema}
 use Rattle.schema.specs.Records.{ForeignKey, Schema, no_key, key_of}
 use Rattle.schema.specs.Fields.{schema_of}
-use Rattle.schema.specs.Check.{check_schema}
 use Rattle.rules.specs.Lists.{𝟘}
 use Rattle.rules.specs.Rows.{Tables}
 use Rattle.rules.specs.Keys.{orphans, counts}

@@ -1,5 +1,6 @@
 -- Rows changed: no call changes more rows than the journal has records.
 -- Assumes nothing.
+use Rattle.std.specs.Prelude.{Ok, Err}
 use mathlib.Core.Path.{◌≡◌, refl, ◌∙◌, ap}
 use mathlib.Core.Bool.{Bool, true, false}
 use mathlib.Core.List.{List, [], ◌∷◌}
@@ -8,18 +9,16 @@ use native.Mathlib.Omega.{arith}
 use lib.Dec.{eqb→eq}
 use lib.IntN.{ℤ}
 use lib.ListN.{length, length-append}
-use Rattle.schema.specs.declared.SchemaAnswer.{SchemaAnswer}
-use Rattle.schema.specs.declared.SchemaAnswer.TheVariants.{Accepted, Malformed}
+use Rattle.schema.specs.Check.{SchemaAnswer, Accepted, check_schema}
+use Rattle.schema.specs.declared.SchemaError.TheVariants.{Malformed}
 use Rattle.schema.specs.Records.{Schema}
 use Rattle.schema.specs.Sizes.{area_size}
 use Rattle.schema.specs.Fields.{schema_of}
-use Rattle.schema.specs.Check.{check_schema}
 use Rattle.schema.proofs.RangeLaws.{and_left}
 use Rattle.schema.proofs.SchemaLaws.{Valid, valid, accepted_formed}
 use Rattle.schema.proofs.FieldLaws.{room_few}
 use Rattle.rules.specs.declared.Refusal.{Refusal}
-use Rattle.rules.specs.declared.Answer.{Answer}
-use Rattle.rules.specs.Refusals.{shown}
+use Rattle.rules.specs.Refusals.{Answer, shown}
 use Rattle.rules.specs.Book.{Work, Book}
 use Rattle.rules.specs.Calls.{Call, malformed, insert, update, delete, begin, savepoint, release, rollback_to, rollback, commit, delete_where, update_where, in_table, parse, allowed}
 use Rattle.rules.specs.Change.{Result}
@@ -122,5 +121,5 @@ unfolding call_on under_schema shown
 changed_few bs c ws = by (check_schema bs) refl
   where
     by : (a : SchemaAnswer) → check_schema bs ≡ a → Few 4096 (under_schema a (area_step (schema_of bs) c) ws)
-    by Accepted e = omega (arith, few_area (valid bs (accepted_formed bs e)) c ws, room_few bs e)
-    by Malformed e = omega arith
+    by (Ok tt) e = omega (arith, few_area (valid bs (accepted_formed bs e)) c ws, room_few bs e)
+    by (Err Malformed) e = omega arith

@@ -11,9 +11,8 @@ use lib.ListN.{get_or}
 use lib.Signed.{lt_z}
 use Rattle.schema.specs.Ranges.{all}
 use Rattle.schema.specs.Records.{Window, ForeignKey, key_of, table_of, unique_columns, parent_key}
-use Rattle.schema.specs.declared.SchemaAnswer.TheVariants.{Accepted}
+use Rattle.schema.specs.Check.{Accepted, check_schema}
 use Rattle.schema.specs.Fields.{schema_of}
-use Rattle.schema.specs.Check.{check_schema}
 use Rattle.schema.proofs.RangeLaws.{and_left}
 use Rattle.rules.specs.Lists.{any, except}
 use Rattle.rules.specs.Rows.{Row, live, null_at}

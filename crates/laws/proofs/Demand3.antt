@@ -10,11 +10,9 @@ use lib.IntN.{ℤ}
 use lib.ListN.{length}
 use Rattle.schema.specs.Records.{Schema}
 use Rattle.schema.specs.Fields.{schema_of}
-use Rattle.schema.specs.Check.{check_schema}
-use Rattle.schema.specs.declared.SchemaAnswer.TheVariants.{Accepted}
+use Rattle.schema.specs.Check.{check_schema, Accepted}
 use Rattle.schema.proofs.SchemaLaws.{Valid, valid, accepted_formed}
-use Rattle.rules.specs.declared.Answer.{Answer}
-use Rattle.rules.specs.Refusals.{accepted}
+use Rattle.rules.specs.Refusals.{Answer, accepted}
 use Rattle.rules.specs.Values.{all_zero, nat_of}
 use Rattle.rules.specs.Keys.{counts}
 use Rattle.rules.specs.Book.{Book, fresh}

@@ -11,10 +11,8 @@ use Rattle.schema.specs.Records.{Schema}
 use Rattle.schema.specs.Fields.{schema_of}
 use Rattle.schema.proofs.RangeLaws.{and_left, and_right}
 use Rattle.schema.proofs.SchemaLaws.{accepted_valid}
-use Rattle.rules.specs.declared.Answer.{Answer}
-use Rattle.rules.specs.declared.Answer.TheVariants.{Done, Refused}
-use Rattle.rules.specs.declared.Verdict.TheVariants.{Pass}
-use Rattle.rules.specs.Refusals.{accepted}
+use Rattle.std.specs.Prelude.{Ok, Err}
+use Rattle.rules.specs.Refusals.{Answer, accepted}
 use Rattle.rules.specs.Rows.{Row, Tables}
 use Rattle.rules.specs.Book.{Work, Book, write, fresh}
 use Rattle.rules.specs.Calls.{Call, malformed, insert, update, delete, begin, savepoint, release, rollback_to, rollback, commit, delete_where, update_where, parse}
@@ -64,8 +62,8 @@ straight_place (update_where t c m v d y) x k e h = straight_joined x k.line (e 
 
 straight_mark : (ws : List ℤ) (a : Answer) (k : Struck) → all straight k.line ≡ true → all straight (mark (parse ws) ws a k).line ≡ true
 unfolding mark straight accepted
-straight_mark ws (Refused r) k h = h
-straight_mark ws (Done n d) k h = straight_place (parse ws) (ws, Done n d) k (ap not) h
+straight_mark ws (Err r) k h = h
+straight_mark ws (Ok d) k h = straight_place (parse ws) (ws, Ok d) k (ap not) h
 
 straight_marks : (log : List Logged) (k : Struck) → all straight k.line ≡ true → all straight (marks log k).line ≡ true
 unfolding marks
@@ -78,7 +76,7 @@ straight_left log = straight_marks log (record { line = []; pile = [] }) refl
 
 -- ---- a claim about the rows, kept by row changes that are let pass
 
-module _ (s : Schema) (P : Tables → Type 0) (kept : (t r : ℕ) (new : Row) (w : Work) → admits s t r new w ≡ Pass → P w.tabs → P (write t r new w).tabs) where
+module _ (s : Schema) (P : Tables → Type 0) (kept : (t r : ℕ) (new : Row) (w : Work) → admits s t r new w ≡ Ok tt → P w.tabs → P (write t r new w).tabs) where
   kept_writes : {w v : Work} → Admitted s w v → P w.tabs → P v.tabs
   kept_writes done h = h
   kept_writes (next {w} t r new e p) h = kept_writes p (kept t r new w e h)
@@ -99,7 +97,7 @@ module _ (s : Schema) (P : Tables → Type 0) (kept : (t r : ℕ) (new : Row) (w
 
 -- what is left leads from a fresh area to the same rows
 module _ {bs : List ℕ} {ws : List ℤ} (reached : Reached bs ws) (P : Tables → Type 0)
-    (kept : (t r : ℕ) (new : Row) (w : Work) → admits (schema_of bs) t r new w ≡ Pass → P w.tabs → P (write t r new w).tabs) where
+    (kept : (t r : ℕ) (new : Row) (w : Work) → admits (schema_of bs) t r new w ≡ Ok tt → P w.tabs → P (write t r new w).tabs) where
   pub reached_kept : P (fresh (schema_of bs)).work.tabs → P (work_of (schema_of bs) ws).tabs
   unfolding work_of reached_book
   reached_kept h =

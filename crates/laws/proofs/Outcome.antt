@@ -24,12 +24,12 @@ use Rattle.rules.specs.Found.{rows_found}
 use Rattle.rules.specs.Rows.{Row}
 use Rattle.rules.specs.Keys.{counts}
 use Rattle.rules.specs.Lists.{less, plus}
-use Rattle.rules.specs.Refusals.{number}
+use Rattle.rules.specs.Refusals.{number, did}
 use Rattle.rules.specs.State.{in_transaction, level_open, opener_fits, kept_in_range}
 use Rattle.rules.specs.Statement.{Turn, check, demand, after_statement, journal_after, settle, conclude, statement, row_statement}
 use Rattle.rules.specs.Step.{opened, opener_of, committed, rolled, released, act, step, Logged}
 use Rattle.rules.specs.Strike.{Struck, joined, place}
-use Rattle.rules.specs.declared.Answer.TheVariants.{Done, Refused}
+use Rattle.std.specs.Prelude.{Err}
 use Rattle.rules.specs.declared.Refusal.{Refusal}
 use Rattle.schema.proofs.RangeLaws.{and_left, and_right}
 use Rattle.schema.proofs.SchemaLaws.{Valid}
@@ -46,14 +46,14 @@ abbrev pub Ends : ℕ → Call → Type 0
 Ends n c = (x : Logged) (k : Struck) → length k.pile ≡ n → place c x k ≡ record { line = joined x k.line; pile = [] }
 
 pub data Outcome (s : Schema) (b : Book) : Call → Turn → Type 0 where
-  refusal : {c : Call} {r : Refusal} {b' : Book} → regular r ≡ true → b' ≡ b → Outcome s b c (Refused r, b')
-  moving : {c : Call} {n : ℕ} {d : ℤ} {b' : Book} (w : Work) → Plain c → in_transaction b.levels ≡ true → kept_in_range s s.keys (counts s w.tabs) ≡ true → Undoes s b.work w → b' ≡ moved (counts s w.tabs) w b → Outcome s b c (Done n d, b')
-  alone : {c : Call} {n : ℕ} {d : ℤ} {b' : Book} → Plain c → b.levels ≡ [] → b'.levels ≡ [] → Good s b' → Outcome s b c (Done n d, b')
-  opening : {c : Call} {n : ℕ} {d : ℤ} {b' : Book} (o : ℕ) (x : List ℤ) (rest : List (List ℤ)) → Opens c → b.closed ≡ x ∷ rest → (in_transaction b.levels ≡ true → o ≡ b.opener) → opener_fits true o ≡ true → b' ≡ push o rest b → Outcome s b c (Done n d, b')
-  closing : {n : ℕ} {d : ℤ} {b' : Book} (a : ℕ) → 1 < a → a ≤ length b.levels → b' ≡ close (suc (length b.levels) - a) b → Outcome s b (release a) (Done n d, b')
-  ending : {c : Call} {n : ℕ} {d : ℤ} {b' : Book} → Ends (length b.levels) c → b' ≡ ended b.kept b.work b → Outcome s b c (Done n d, b')
-  backing : {n : ℕ} {d : ℤ} {b' : Book} (a : ℕ) → 0 < a → a ≤ length b.levels → b' ≡ back (length b.levels - a) b → Outcome s b (rollback_to a) (Done n d, b')
-  aborting : {n : ℕ} {d : ℤ} {b' : Book} → in_transaction b.levels ≡ true → b' ≡ abort b → Outcome s b rollback (Done n d, b')
+  refusal : {c : Call} {r : Refusal} {b' : Book} → regular r ≡ true → b' ≡ b → Outcome s b c (Err r, b')
+  moving : {c : Call} {n : ℕ} {d : ℤ} {b' : Book} (w : Work) → Plain c → in_transaction b.levels ≡ true → kept_in_range s s.keys (counts s w.tabs) ≡ true → Undoes s b.work w → b' ≡ moved (counts s w.tabs) w b → Outcome s b c (did n d, b')
+  alone : {c : Call} {n : ℕ} {d : ℤ} {b' : Book} → Plain c → b.levels ≡ [] → b'.levels ≡ [] → Good s b' → Outcome s b c (did n d, b')
+  opening : {c : Call} {n : ℕ} {d : ℤ} {b' : Book} (o : ℕ) (x : List ℤ) (rest : List (List ℤ)) → Opens c → b.closed ≡ x ∷ rest → (in_transaction b.levels ≡ true → o ≡ b.opener) → opener_fits true o ≡ true → b' ≡ push o rest b → Outcome s b c (did n d, b')
+  closing : {n : ℕ} {d : ℤ} {b' : Book} (a : ℕ) → 1 < a → a ≤ length b.levels → b' ≡ close (suc (length b.levels) - a) b → Outcome s b (release a) (did n d, b')
+  ending : {c : Call} {n : ℕ} {d : ℤ} {b' : Book} → Ends (length b.levels) c → b' ≡ ended b.kept b.work b → Outcome s b c (did n d, b')
+  backing : {n : ℕ} {d : ℤ} {b' : Book} (a : ℕ) → 0 < a → a ≤ length b.levels → b' ≡ back (length b.levels - a) b → Outcome s b (rollback_to a) (did n d, b')
+  aborting : {n : ℕ} {d : ℤ} {b' : Book} → in_transaction b.levels ≡ true → b' ≡ abort b → Outcome s b rollback (did n d, b')
 
 ends_release : {n : ℕ} (a : ℕ) → a ≡ 1 → Ends n (release a)
 unfolding place
@@ -95,11 +95,11 @@ module _ {s : Schema} {b : Book} (v : Valid s) (g : Good s b) where
   unfolding demand
   of_demanded t r k e f = rw e f
 
-  of_accepted : {c : Call} (n : ℕ) (d : ℤ) (w : Work) → Plain c → Undoes s b.work w → kept_in_range s s.keys (counts s w.tabs) ≡ true → Outcome s b c (Done n d, after_statement w (counts s w.tabs) b)
+  of_accepted : {c : Call} (n : ℕ) (d : ℤ) (w : Work) → Plain c → Undoes s b.work w → kept_in_range s s.keys (counts s w.tabs) ≡ true → Outcome s b c (did n d, after_statement w (counts s w.tabs) b)
   unfolding after_statement journal_after
   of_accepted {c} n d w p u f = by (in_transaction b.levels) refl
     where
-      by : (i : Bool) → in_transaction b.levels ≡ i → Outcome s b c (Done n d, after_statement w (counts s w.tabs) b)
+      by : (i : Bool) → in_transaction b.levels ≡ i → Outcome s b c (did n d, after_statement w (counts s w.tabs) b)
       by true h = moving {b' = after_statement w (counts s w.tabs) b} w p h f u (rw h refl)
       by false h = alone p (unused g h).0 (unused g h).0 (good_alone g w u h f)
 

@@ -5,10 +5,9 @@ use mathlib.Core.List.{List, [], ◌∷◌, ◌++◌}
 use Prim.Native.Nat.{ℕ}
 use lib.IntN.{ℤ}
 use lib.ListN.{length}
-use Rattle.schema.specs.declared.SchemaAnswer.TheVariants.{Accepted}
+use Rattle.schema.specs.Check.{Accepted, check_schema}
 use Rattle.schema.specs.Records.{Schema}
 use Rattle.schema.specs.Fields.{schema_of}
-use Rattle.schema.specs.Check.{check_schema}
 use Rattle.schema.proofs.SchemaLaws.{Valid, accepted_valid}
 use Rattle.rules.specs.Book.{Book, fresh, zero_records}
 use Rattle.rules.specs.State.{undamaged}

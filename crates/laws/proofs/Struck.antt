@@ -19,15 +19,13 @@ use Rattle.rules.specs.Book.{Work, Book, close, back, ended, abort, push}
 use Rattle.rules.specs.Calls.{Call, release, commit, formed_if, parsed, parse, level_number, allowed}
 use Rattle.rules.specs.Keys.{counts}
 use Rattle.rules.specs.Lists.{𝟘}
-use Rattle.rules.specs.Refusals.{accepted}
+use Rattle.rules.specs.Refusals.{Answer, accepted, did}
 use Rattle.rules.specs.State.{in_transaction, kept_in_range, level_open}
 use Rattle.rules.specs.Statement.{Turn, check}
 use Rattle.rules.specs.Step.{committed, released, act, step, run_all, run, Logged}
 use Rattle.rules.specs.Strike.{Struck, joined, place, mark, marks, strike, calls_of, commit_words, release_words}
 use Rattle.rules.specs.Values.{all_zero, natural, nat_of, same_word}
 use Rattle.schema.specs.Ranges.{all}
-use Rattle.rules.specs.declared.Answer.{Answer}
-use Rattle.rules.specs.declared.Answer.TheVariants.{Done}
 use Rattle.rules.specs.declared.Refusal.TheVariants.{CommitWithOrphans}
 use Rattle.schema.proofs.SchemaLaws.{Valid}
 use Rattle.schema.specs.Records.{Schema}
@@ -212,17 +210,17 @@ pub keep_call : {s : Schema} {start : Book} → Valid s → {b : Book} {line : L
 unfolding mark place
 keep_call {s} {start} valid {b} {line} {pile} v c (refusal h q) e = subst (λ b'. Inv s start b' line pile) (sym q) v
 keep_call {s} {start} valid {b} {line} {pile} v c (moving {n = n} {d = d} w p i f u q) e =
-    rw (p (c, Done n d) (record { line = line; pile = pile }), q) (keep_moved v c (Done n d) w u i f (e ∙ ap (λ b'. (Done n d, b')) q))
+    rw (p (c, did n d) (record { line = line; pile = pile }), q) (keep_moved v c (did n d) w u i f (e ∙ ap (λ b'. (did n d, b')) q))
 keep_call {s} {start} valid {b} {line} {pile} v c (alone {n = n} {d = d} {b' = b'} p i i' g) e =
-    rw (p (c, Done n d) (record { line = line; pile = pile }), length_zero pile (v.height ∙ ap length i)) (none (reach v c (Done n d) e g) i')
+    rw (p (c, did n d) (record { line = line; pile = pile }), length_zero pile (v.height ∙ ap length i)) (none (reach v c (did n d) e g) i')
 keep_call {s} {start} valid {b} {line} {pile} v c (opening {n = n} {d = d} o x closed p sh f t q) e =
-    rw (p (c, Done n d) (record { line = line; pile = pile }), q)
-    (keep_push (c, Done n d) o x closed v (reach v c (Done n d) (e ∙ ap (λ b'. (Done n d, b')) q) (good_push v.now.good o x closed sh t valid.few)) sh f)
+    rw (p (c, did n d) (record { line = line; pile = pile }), q)
+    (keep_push (c, did n d) o x closed v (reach v c (did n d) (e ∙ ap (λ b'. (did n d, b')) q) (good_push v.now.good o x closed sh t valid.few)) sh f)
 keep_call {s} {start} valid {b} {line} {pile} v c (closing {n = n} {d = d} a h h' q) e =
     let j : ℕ = suc (length b.levels) - a in
-    rw (q, v.height) (keep_closed v c (Done n d) j (omega arith) (e ∙ ap (λ b'. (Done n d, b')) q))
+    rw (q, v.height) (keep_closed v c (did n d) j (omega arith) (e ∙ ap (λ b'. (did n d, b')) q))
 keep_call {s} {start} valid {b} {line} {pile} v c (ending {n = n} {d = d} p q) e =
-    rw (p (c, Done n d) (record { line = line; pile = pile }) v.height, q) (none (reach v c (Done n d) (e ∙ ap (λ b'. (Done n d, b')) q) (good_ended v.now.good)) (levels_ended b))
+    rw (p (c, did n d) (record { line = line; pile = pile }) v.height, q) (none (reach v c (did n d) (e ∙ ap (λ b'. (did n d, b')) q) (good_ended v.now.good)) (levels_ended b))
 keep_call {s} {start} valid {b} {line} {pile} v c (backing a h h' q) e =
     let j : ℕ = length b.levels - a in
     rw (q, v.height, get_or-drop, add-zero) (keep_back v j (omega arith))
@@ -258,7 +256,7 @@ module _ {s : Schema} {b : Book} (g : Good s b) (i : in_transaction b.levels ≡
   unfolding committed check accepted
   settles = rw (← g.counted) (by (all_zero b.kept))
     where
-      by : (t : Bool) → accepted (check t CommitWithOrphans (λ b. (Done 0 𝟘, ended b.kept b.work b)) b).0 ≡ t
+      by : (t : Bool) → accepted (check t CommitWithOrphans (λ b. (did 0 𝟘, ended b.kept b.work b)) b).0 ≡ t
       by true = refl
       by false = refl
 

@@ -9,10 +9,9 @@ use borrow.Author.Tests.{eq-eqb}
 use lib.Dec.{eqb}
 use lib.ListN.{get_or}
 use lib.Signed.{le_z}
-use Rattle.schema.specs.declared.SchemaAnswer.TheVariants.{Accepted}
+use Rattle.schema.specs.Check.{Accepted, check_schema}
 use Rattle.schema.specs.Records.{Window, ForeignKey, Schema, no_key, table_of, key_of, parent_key}
 use Rattle.schema.specs.Fields.{schema_of}
-use Rattle.schema.specs.Check.{check_schema}
 use Rattle.rules.specs.Lists.{𝟘, any, except}
 use Rattle.rules.specs.Values.{nat_of}
 use Rattle.rules.specs.Rows.{Row, Tables, row_at, put_row, overwrite, live, live_state}

@@ -11,11 +11,9 @@ use Rattle.schema.specs.declared.Action.TheVariants.{NoAction, Restrict, SetNull
 use Rattle.schema.specs.Records.{ForeignKey, Schema, table_of}
 use Rattle.rules.specs.declared.Refusal.{Refusal}
 use Rattle.rules.specs.declared.Refusal.TheVariants.{JournalFull, BrokenKey, NotNull, NotUnique, BadWindow}
-use Rattle.rules.specs.declared.Answer.TheVariants.{Done, Refused}
-use Rattle.rules.specs.declared.Verdict.{Verdict}
-use Rattle.rules.specs.declared.Verdict.TheVariants.{Pass, Fail}
+use Rattle.std.specs.Prelude.{Ok, Err}
 use Rattle.rules.specs.Lists.{any, up_from}
-use Rattle.rules.specs.Refusals.{failing}
+use Rattle.rules.specs.Refusals.{Verdict, failing, did}
 use Rattle.rules.specs.Rows.{Row, row_at, live}
 use Rattle.rules.specs.Keys.{uses_broken}
 use Rattle.rules.specs.Book.{Work, Book, write, emptied, push, close, ended}
@@ -30,26 +28,26 @@ use Rattle.laws.specs.UsedKeys.{rolls_back}
 -- from the first to the second by row changes that are let pass
 pub data Admitted (s : Schema) : Work → Work → Type 0 where
   done : {w : Work} → Admitted s w w
-  next : {w v : Work} (t r : ℕ) (new : Row) → admits s t r new w ≡ Pass → Admitted s (write t r new w) v → Admitted s w v
+  next : {w v : Work} (t r : ℕ) (new : Row) → admits s t r new w ≡ Ok tt → Admitted s (write t r new w) v → Admitted s w v
 
 -- a turn that is accepted wrote such row changes, or nothing
 pub data Wrote (s : Schema) (b : Book) : Turn → Type 0 where
-  refused : {r : Refusal} {b' : Book} → Wrote s b (Refused r, b')
-  wrote : {n : ℕ} {m : ℤ} {b' : Book} {w : Work} → Admitted s b.work w → b'.work.tabs ≡ w.tabs → Wrote s b (Done n m, b')
+  refused : {r : Refusal} {b' : Book} → Wrote s b (Err r, b')
+  wrote : {n : ℕ} {m : ℤ} {b' : Book} {w : Work} → Admitted s b.work w → b'.work.tabs ≡ w.tabs → Wrote s b (did n m, b')
 
 -- ---- what the checks say of a row change that they let pass
 
 abbrev passes : Verdict → Bool
-passes Pass = true
-passes (Fail c) = false
+passes (Ok tt) = true
+passes (Err c) = false
 
 -- the first of them, and the others
-passed : (b : Bool) (c : Refusal) (v : Verdict) → failing b c v ≡ Pass → (b ≡ false) × (v ≡ Pass)
+passed : (b : Bool) (c : Refusal) (v : Verdict) → failing b c v ≡ Ok tt → (b ≡ false) × (v ≡ Ok tt)
 unfolding failing
 passed true c v e = absurd (false≢true (λ i. passes (e i)))
 passed false c v e = (refl, e)
 
-module _ (s : Schema) (t r : ℕ) (new : Row) (w : Work) (e : admits s t r new w ≡ Pass) where
+module _ (s : Schema) (t r : ℕ) (new : Row) (w : Work) (e : admits s t r new w ≡ Ok tt) where
   pub admits_unbroken : any (uses_broken new t (row_at t r w.tabs)) s.keys ≡ false
   unfolding admits
   admits_unbroken = (passed _ BrokenKey _ (passed _ JournalFull _ e).1).0
@@ -94,10 +92,10 @@ module _ (s : Schema) where
   made_given true k p = p
   made_given false k p = went done
 
-  made_admitted : {w : Work} (v : Verdict) (k : Work → Result) → (v ≡ Pass → Made w (k w)) → Made w (admitted v k w)
+  made_admitted : {w : Work} (v : Verdict) (k : Work → Result) → (v ≡ Ok tt → Made w (k w)) → Made w (admitted v k w)
   unfolding admitted
-  made_admitted Pass k p = p refl
-  made_admitted (Fail c) k p = stopped
+  made_admitted (Ok tt) k p = p refl
+  made_admitted (Err c) k p = stopped
 
   made_in_turn : (turn : ℕ → Work → Result) → ((i : ℕ) (w : Work) → Made w (turn i w)) → (is : List ℕ) (w : Work) → Made w (in_turn turn is w)
   unfolding in_turn

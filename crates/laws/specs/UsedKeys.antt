@@ -1,9 +1,9 @@
 -- The row changes of a call, and the foreign keys that they use.
 -- Assumes nothing.
-use Rattle.std.specs.Prelude.{◌≡◌, Bool, true, false, ℕ, ℤ}
+use Rattle.std.specs.Prelude.{◌≡◌, Bool, true, false, ℕ, ℤ, Err}
 use Rattle.schema.specs.Records.{Schema}
 use Rattle.rules.specs.declared.Refusal.{Refusal}
-use Rattle.rules.specs.declared.Answer.TheVariants.{Done, Refused}
+use Rattle.rules.specs.Refusals.{did}
 use Rattle.rules.specs.Lists.{any}
 use Rattle.rules.specs.Rows.{Row, row_at}
 use Rattle.rules.specs.Keys.{uses_broken}
@@ -18,8 +18,8 @@ pub data Unbroken (s : Schema) : Work → Work → Type 0 where
 
 -- a turn that is accepted wrote such row changes, or nothing
 pub data WroteUnbroken (s : Schema) (b : Book) : Turn → Type 0 where
-  refused : {r : Refusal} {b' : Book} → WroteUnbroken s b (Refused r, b')
-  wrote : {n : ℕ} {m : ℤ} {b' : Book} {w : Work} → Unbroken s b.work w → b'.work.tabs ≡ w.tabs → WroteUnbroken s b (Done n m, b')
+  refused : {r : Refusal} {b' : Book} → WroteUnbroken s b (Err r, b')
+  wrote : {n : ℕ} {m : ℤ} {b' : Book} {w : Work} → Unbroken s b.work w → b'.work.tabs ≡ w.tabs → WroteUnbroken s b (did n m, b')
 
 -- the calls that undo row changes and make none
 unfoldable pub rolls_back : Call → Bool

@@ -7,7 +7,7 @@ use native.Mathlib.Omega.{arith}
 use borrow.Author.Tests.{le-leb}
 use lib.Dec.{leb, leb→le}
 use lib.IntN.{ℤ}
-use lib.ListN.{length, get_or, take, drop, length-map, length-reverse, length-take, get_or-map}
+use lib.ListN.{length, get_or, take, drop, length-map, length-reverse, length-take, get_or-map, drop_of_length-le}
 use lib.Seq.{drop-drop, drop-cons, get_or-take}
 use Rattle.schema.specs.Records.{Schema}
 use Rattle.schema.specs.Sizes.{area_size}
@@ -93,11 +93,5 @@ module _ {s : Schema} {a : List ℤ} (f : Fit s a) where
   pub first_kept_lem : 0 < length (view s a).levels → (d : List ℤ) → first_kept (view s a).levels d ≡ take 32 (drop 37 a)
   first_kept_lem h d =
       let n : ℕ = length (view s a).levels in
-      let none : drop (n - 0) (view s a).levels ≡ [] = drop_all (n - 0) (view s a).levels (omega arith) in
+      let none : drop (n - 0) (view s a).levels ≡ [] = drop_of_length-le (view s a).levels {i = n - 0} (omega arith) in
       first_last (n - 1) (view s a).levels (level_at 0) d (level_found 0 h ∙ ap (λ l. level_at 0 ∷ l) none)
-    where
-      drop_all : (k : ℕ) (ls : List Level) → length ls ≤ k → drop k ls ≡ []
-      drop_all zero [] g = refl
-      drop_all zero (x ∷ ls) g = absurd (omega arith)
-      drop_all (suc k) [] g = refl
-      drop_all (suc k) (x ∷ ls) g = drop_all k ls (omega arith)

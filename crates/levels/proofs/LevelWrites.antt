@@ -3,13 +3,14 @@
 use mathlib.Core.Path.{◌≡◌, refl, sym, ◌∙◌, ap, ap₂}
 use mathlib.Core.Bool.{true}
 use mathlib.Core.List.{List, [], ◌∷◌, ◌++◌, map, reverse, reverse-reverse}
-use Prim.Native.Nat.{ℕ, zero, suc, ◌+◌, ◌-◌, ◌*◌, ◌≤◌, ◌<◌}
+use Prim.Native.Nat.{ℕ, suc, ◌+◌, ◌-◌, ◌*◌, ◌≤◌, ◌<◌}
 use native.Mathlib.Nat.{zero-add, le_of_lt}
 use native.Mathlib.Omega.{arith}
 use lib.Dec.{eqb}
 use lib.IntN.{ℤ, pos}
 use lib.ListN.{length, get_or, set, take, drop, replicate, length-map, length-reverse, length-append, length-replicate, length-drop}
-use lib.Seq.{sets, drop_at, take-append-le}
+use lib.Seq.{sets, drop-cons, drop_at, take-append-le}
+use Rattle.std.proofs.lemmas.List.{take-map}
 use Rattle.schema.specs.Ranges.{all}
 use Rattle.schema.specs.Records.{Schema}
 use Rattle.schema.specs.Sizes.{area_size}
@@ -129,11 +130,7 @@ module _ {s : Schema} {a : List ℤ} (f : Fit s a) where
     l = record { base = length (view s a).work.used; kept = (view s a).kept }
 
     closed_is : (view s a).closed ≡ get_or (view s a).closed 0 [] ∷ drop 1 (view s a).closed
-    closed_is = first (view s a).closed some
-      where
-        first : (xs : List (List ℤ)) → 0 < length xs → xs ≡ get_or xs 0 [] ∷ drop 1 xs
-        first [] h = absurd (omega arith)
-        first (x ∷ xs) h = refl
+    closed_is = drop-cons (view s a).closed 0 [] some
 
     level_33 : length (level_words (record { base = length (view s a).work.used; kept = (view s a).kept })) ≡ 33
     unfolding level_words
@@ -188,11 +185,6 @@ module _ {s : Schema} {a : List ℤ} (f : Fit s a) where
     stack_length : length (map level_words (reverse (view s a).levels)) ≡ length (view s a).levels
     stack_length = simp (length-map, length-reverse)
 
-    map_take : {A B : Type 0} (g : A → B) (k : ℕ) (xs : List A) → map g (take k xs) ≡ take k (map g xs)
-    map_take g zero xs = refl
-    map_take g (suc k) [] = refl
-    map_take g (suc k) (x ∷ xs) = ap (λ r. g x ∷ r) (map_take g k xs)
-
     reverse_back : (xs : List Level) → n ≤ length xs → reverse (drop n xs) ≡ take (length xs - n) (reverse xs)
     reverse_back xs h =
         let q : length (reverse xs) ≡ length xs = length-reverse xs in
@@ -207,7 +199,7 @@ module _ {s : Schema} {a : List ℤ} (f : Fit s a) where
         let st : List (List ℤ) = map level_words (reverse b'.levels) in
         let k9 : length b'.levels ≤ length (levels_of b') = simp (length-append, length-map, length-reverse) (omega arith) in
         let front : map level_words (reverse (drop n b'.levels)) ≡ take left (levels_of b') =
-        ap (map level_words) (reverse_back b'.levels le) ∙ map_take level_words left (reverse b'.levels) ∙ sym (take-append-le left st b'.closed (omega (arith, stack_length))) in
+        ap (map level_words) (reverse_back b'.levels le) ∙ sym (take-map level_words left (reverse b'.levels)) ∙ sym (take-append-le left st b'.closed (omega (arith, stack_length))) in
         let back : b'.closed ≡ drop (length b'.levels) (levels_of b') = sym (drop_at st b'.closed (length b'.levels) stack_length) in
         let zs : flat (zero_levels n) ≡ replicate (n * 33) 𝟘 = flat_zeros 𝟘 33 n in
         let q : left * 33 + length (replicate (n * 33) 𝟘) ≡ length b'.levels * 33 = simp length-replicate (omega arith) in

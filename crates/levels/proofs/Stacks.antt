@@ -5,10 +5,11 @@ use mathlib.Core.Bool.{true}
 use mathlib.Core.List.{List, [], ◌∷◌, ◌++◌, map, map-append, reverse, reverse-cons, reverse-append, append_assoc}
 use Prim.Native.Nat.{ℕ, zero, suc, ◌+◌, ◌-◌, ◌*◌, ◌≤◌, ◌<◌}
 use native.Mathlib.Nat.{zero-mul}
+use native.Mathlib.Numerals.{add-one}
 use native.Mathlib.Omega.{arith}
 use lib.Dec.{eqb→eq}
 use lib.ListN.{length, get_or, set, take, drop, length-map, length-reverse}
-use lib.Seq.{set-append_seam, take-append-add, drop-append-add, take-suc, take_all}
+use lib.Seq.{set-append_seam, take-append-add, drop-append-add, take-suc, take_all, drop-drop}
 use Rattle.schema.specs.Ranges.{all}
 use Rattle.rules.specs.Lists.{flat}
 use Rattle.bridge.proofs.Tests.{all_head, all_tail, holds}
@@ -39,11 +40,6 @@ module _ {A : Type 0} where
   pub reverse_take : (xs : List A) (i : ℕ) (d : A) → i < length xs → reverse (take (suc i) xs) ≡ get_or xs i d ∷ reverse (take i xs)
   reverse_take xs i d h = ap reverse (take-suc xs i d h) ∙ reverse-append (take i xs) (get_or xs i d ∷ [])
 
-  drop_suc : (n : ℕ) (l : List A) → drop (suc n) l ≡ drop 1 (drop n l)
-  drop_suc zero l = refl
-  drop_suc (suc n) [] = refl
-  drop_suc (suc n) (y ∷ l) = drop_suc n l
-
   -- the newest n gone
   pub drop_reverse : (n : ℕ) (xs : List A) → n ≤ length xs → drop n (reverse xs) ≡ reverse (take (length xs - n) xs)
   drop_reverse zero xs h =
@@ -54,7 +50,7 @@ module _ {A : Type 0} where
       let m : ℕ = length (x ∷ xs) - suc n in
       let e : length (x ∷ xs) - n ≡ suc m = omega arith in
       let p : drop n (reverse (x ∷ xs)) ≡ get_or (x ∷ xs) m x ∷ reverse (take m (x ∷ xs)) = drop_reverse n (x ∷ xs) (omega arith) ∙ ap (λ k. reverse (take k (x ∷ xs))) e ∙ reverse_take (x ∷ xs) m x (omega arith) in
-      drop_suc n (reverse (x ∷ xs)) ∙ ap (drop 1) p
+      ap (λ k. drop k (reverse (x ∷ xs))) (sym (add-one n)) ∙ sym (drop-drop 1 n (reverse (x ∷ xs))) ∙ ap (drop 1) p
 
   -- one more on the stack
   pub stack_push : {B : Type 0} (f : A → B) (x : A) (xs : List A) (y : B) (ys : List B) → map f (reverse (x ∷ xs)) ++ ys ≡ set (map f (reverse xs) ++ (y ∷ ys)) (length xs) (f x)

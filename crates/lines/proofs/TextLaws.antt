@@ -17,7 +17,8 @@ use mir.Syntax.{w64}
 use mir.Val.{SFits, to_z, of_z}
 use mir.Facts.{to_z-of_z}
 use Rattle.io.specs.Digits.{last_digits, hex_digit_ascii, IsDigitCount}
-use Rattle.lines.specs.Text.{put, decimal_up_to, decimal, signed_text}
+use Rattle.lines.specs.declared.Text.{Text}
+use Rattle.lines.specs.Text.{put, held, SameBuffer, Puts, decimal_up_to, decimal, signed_text}
 
 -- ---- text written into a buffer
 
@@ -36,6 +37,16 @@ sets_append out (x ∷ a) b at = ap (λ i. sets (sets out at (x ∷ a)) i b) (om
 pub then : (a b : List ℕ) (p : ℕ × List ℕ) {q r : ℕ × List ℕ} → q ≡ put a p → r ≡ put b q → r ≡ put (a ++ b) p
 unfolding put
 then a b p e f = f ∙ ap (put b) e ∙ ap₂ (λ n out. (n, out)) (simp length-append (omega arith)) (sets_append p.1 a b p.0)
+
+-- the text that was written is this one
+pub puts_as : {a b : List ℕ} {t u : Text} → a ≡ b → Puts a t u → Puts b t u
+puts_as {t = t} e x = record { written = x.written ∙ ap (λ l. put l (held t)) e; same = x.same }
+
+pub same_then : {t u v : Text} → SameBuffer t u → SameBuffer u v → SameBuffer t v
+same_then x y = record { reference = y.reference ∙ x.reference; size = y.size ∙ x.size }
+
+pub puts_then : (a b : List ℕ) {t u v : Text} → Puts a t u → Puts b u v → Puts (a ++ b) t v
+puts_then a b {t} x y = record { written = then a b (held t) x.written y.written; same = same_then x.same y.same }
 
 -- ---- decimal digits
 

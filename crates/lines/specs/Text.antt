@@ -1,11 +1,26 @@
 -- The program's lines: "code, rows changed, net", and the tally, "printed last".
 -- Assumes nothing.
-use Rattle.std.specs.Prelude.{cond, List, [], ◌∷◌, ◌++◌, ℕ, zero, suc, ◌+◌, ◌/◌, ◌%◌, ltb, ℤ, pos, negsuc, length}
+use Rattle.std.specs.Prelude.{◌≡◌, cond, List, [], ◌∷◌, ◌++◌, ℕ, zero, suc, ◌+◌, ◌/◌, ◌%◌, ltb, ℤ, pos, negsuc, length}
 use Rattle.std.proofs.lemmas.List.Edits.{sets}
+use Rattle.lines.specs.declared.Text.{Text}
 
 -- a text written into a buffer: where it ends, and the buffer
 unfoldable pub put : List ℕ → ℕ × List ℕ → ℕ × List ℕ
 put text p = (p.0 + length text, sets p.1 p.0 text)
+
+-- where a buffer's text ends, and the buffer
+abbrev pub held : Text → ℕ × List ℕ
+held t = (t.used, t.out.now)
+
+-- the same buffer before and after: the reference, and how long it is
+pub record SameBuffer (before after : Text) : Type 0 where
+  pub reference : after.out.ghost_name ≡ before.out.ghost_name
+  pub size : length after.out.now ≡ length before.out.now
+
+-- a buffer before and after a text was written into it
+pub record Puts (text : List ℕ) (before after : Text) : Type 0 where
+  pub written : held after ≡ put text (held before)
+  pub same : SameBuffer before after
 
 -- the decimal digits of n, of which there are at most k
 unfoldable pub decimal_up_to : ℕ → ℕ → List ℕ

@@ -2,75 +2,97 @@
 
 #![tactic(auto)]
 
-ghost use Rattle.std.specs.Prelude.{◌≡◌, ◌+◌, ◌≤◌, nat_abs, length};
-ghost use Rattle.lines.specs.Text.{put, decimal, signed_text, answer_line, tally_line};
+ghost use Rattle.std.specs.Prelude.{◌≡◌, ◌+◌, ◌≤◌, length, take};
 
-// The magnitude of a signed number.
-fn magnitude(n: i64) -> u64
-    ensures { result ≡ nat_abs n }
-{
-    if n < 0 {
-        ((-1 - n) as u64) + 1
-    } else {
-        n as u64
+use run_tally::Tally;
+
+// An answer's code, rows changed and net.
+#[derive(Clone, Copy)]
+pub struct Figures {
+    pub code: u64,
+    pub changed: u64,
+    pub net: i64,
+}
+
+// A buffer, and how many of its bytes hold text. A writer of std's `fmt` does not serve: where its buffer is full it fails, and no
+// clause says that it doesn't where there is room.
+#[derive(Drop)]
+pub struct Text<'a> {
+    pub out: &'a mut [u8],
+    pub used: usize,
+}
+
+impl Text<'_> {
+    ghost use Rattle.lines.specs.Text.{decimal, signed_text, answer_line, tally_line, Puts};
+
+    // The text so far.
+    pub fn as_bytes(&self) -> &[u8]
+        requires { self.now.used ≤ length self.now.out.now }
+        ensures { result.now ≡ take self.now.used self.now.out.now }
+    {
+        &self.out[..self.used]
     }
-}
 
-// Writes a text at `at`; answers where it ends.
-pub fn put_text(out: &mut [u8], at: usize, text: &[u8]) -> usize
-    requires { at + length text.now ≤ length out.old }
-    ensures { ((result, out.new) ≡ put text.now (at, out.old)) × (result ≡ at + length text.now) }
-{
-    let n = text.len();
-    out[at..at + n].copy_from_slice(text);
-    at + n
-}
-
-// Writes a number in decimal digits.
-pub fn put_decimal(out: &mut [u8], at: usize, n: u64) -> usize
-    requires { at + 20 ≤ length out.old }
-    ensures { ((result, out.new) ≡ put (decimal n) (at, out.old)) × (result ≤ at + 20) }
-{
-    let mut digits = [0u8; 20];
-    let k = io::decimal(n, &mut digits);
-    put_text(out, at, &digits[0..k])
-}
-
-// Writes a signed number: a minus where it is negative, and its magnitude.
-pub fn put_signed(out: &mut [u8], at: usize, n: i64) -> usize
-    requires { at + 21 ≤ length out.old }
-    ensures { ((result, out.new) ≡ put (signed_text n) (at, out.old)) × (result ≤ at + 21) }
-{
-    if n < 0 {
-        let next = put_text(out, at, b"-");
-        return put_decimal(out, next, magnitude(n));
+    // Writes a text.
+    pub fn put(&mut self, text: &[u8])
+        requires { self.old.used + length text.now ≤ length self.old.out.now }
+        ensures put { Puts text.now self.old self.new }
+        ensures used { self.new.used ≡ self.old.used + length text.now }
+    {
+        let end = self.used + text.len();
+        self.out[self.used..end].copy_from_slice(text);
+        self.used = end;
     }
-    put_decimal(out, at, magnitude(n))
-}
 
-// Writes the line of an answer.
-pub fn put_answer_line(out: &mut [u8], at: usize, code: u64, changed: u64, net: i64) -> usize
-    requires { at + 64 ≤ length out.old }
-    ensures { ((result, out.new) ≡ put (answer_line code changed net) (at, out.old)) × (result ≤ at + 64) }
-{
-    let a = put_decimal(out, at, code);
-    let b = put_text(out, a, b",");
-    let c = put_decimal(out, b, changed);
-    let d = put_text(out, c, b",");
-    let e = put_signed(out, d, net);
-    put_text(out, e, b"\n")
-}
+    // Writes a number in decimal digits.
+    pub fn put_decimal(&mut self, n: u64)
+        requires { self.old.used + 20 ≤ length self.old.out.now }
+        ensures put { Puts (decimal n) self.old self.new }
+        ensures used { self.new.used ≤ self.old.used + 20 }
+    {
+        let mut digits = [0u8; 20];
+        let k = io::decimal(n, &mut digits);
+        self.put(&digits[..k]);
+    }
 
-// Writes the line of the tally.
-pub fn put_tally_line(out: &mut [u8], at: usize, accepted: u64, refused: u64, rows: u64) -> usize
-    requires { at + 85 ≤ length out.old }
-    ensures { ((result, out.new) ≡ put (tally_line accepted refused rows) (at, out.old)) × (result ≤ at + 85) }
-{
-    let a = put_text(out, at, b"accepted,");
-    let b = put_decimal(out, a, accepted);
-    let c = put_text(out, b, b",refused,");
-    let d = put_decimal(out, c, refused);
-    let e = put_text(out, d, b",rows,");
-    let f = put_decimal(out, e, rows);
-    put_text(out, f, b"\n")
+    // Writes a signed number: a minus where it is negative, and its magnitude.
+    pub fn put_signed(&mut self, n: i64)
+        requires { self.old.used + 21 ≤ length self.old.out.now }
+        ensures put { Puts (signed_text n) self.old self.new }
+        ensures used { self.new.used ≤ self.old.used + 21 }
+    {
+        if n < 0 {
+            self.put(b"-");
+        }
+        self.put_decimal(n.unsigned_abs());
+    }
+
+    // Writes the line of an answer.
+    pub fn put_answer_line(&mut self, figures: Figures)
+        requires { self.old.used + 64 ≤ length self.old.out.now }
+        ensures put { Puts (answer_line figures.code figures.changed figures.net) self.old self.new }
+        ensures used { self.new.used ≤ self.old.used + 64 }
+    {
+        self.put_decimal(figures.code);
+        self.put(b",");
+        self.put_decimal(figures.changed);
+        self.put(b",");
+        self.put_signed(figures.net);
+        self.put(b"\n");
+    }
+
+    // Writes the line of the tally.
+    pub fn put_tally_line(&mut self, tally: Tally)
+        requires { self.old.used + 85 ≤ length self.old.out.now }
+        ensures put { Puts (tally_line tally.accepted tally.refused tally.rows) self.old self.new }
+        ensures used { self.new.used ≤ self.old.used + 85 }
+    {
+        self.put(b"accepted,");
+        self.put_decimal(tally.accepted);
+        self.put(b",refused,");
+        self.put_decimal(tally.refused);
+        self.put(b",rows,");
+        self.put_decimal(tally.rows);
+        self.put(b"\n");
+    }
 }

@@ -2,7 +2,7 @@
 
 #![tactic(auto)]
 
-ghost use Rattle.std.specs.Prelude.{◌≡◌, not, ◌&&◌, ◌+◌, ◌*◌, ◌^◌, ◌≤◌, ◌<◌, length};
+ghost use Rattle.std.specs.Prelude.{◌≡◌, not, ◌&&◌, ◌+◌, ◌*◌, ◌^◌, ◌≤◌, ◌<◌, length, take, drop};
 ghost use Rattle.std.specs.Int.Count.{ones};
 ghost use Rattle.std.specs.Int.{w64};
 ghost use Rattle.std.proofs.Common.{to_z};
@@ -10,11 +10,12 @@ ghost use Rattle.schema.specs.Bytes.{byte, half, word, signed_word, bit};
 ghost use Rattle.schema.specs.Fields.{key_start};
 ghost use Rattle.schema.specs.Marks.{marked, Marks};
 
-// A byte as a number.
-pub fn wide(x: u8) -> usize
-    ensures { (result ≡ x) × (result < 256) }
+// The N bytes that start at i.
+fn bytes_at<const N: usize>(s: &[u8], i: usize) -> [u8; N]
+    requires { i + N ≤ length s.now }
+    ensures { result ≡ take N (drop i s.now) }
 {
-    x as usize
+    s[i..i + N].try_into().unwrap()
 }
 
 // The byte at i.
@@ -22,7 +23,7 @@ pub fn byte_at(s: &[u8], i: usize) -> usize
     requires { i < length s.now }
     ensures { (result ≡ byte s.now i) × (result < 256) }
 {
-    wide(s[i])
+    usize::from(s[i])
 }
 
 // The unsigned 16-bit number whose two bytes start at i.
@@ -30,7 +31,7 @@ pub fn half_at(s: &[u8], i: usize) -> usize
     requires { i + 2 ≤ length s.now }
     ensures { (result ≡ half s.now i) × (result < 65536) }
 {
-    wide(s[i]) + 256 * wide(s[i + 1])
+    usize::from(u16::from_le_bytes(bytes_at(s, i)))
 }
 
 // The unsigned 64-bit number whose eight bytes start at i.
@@ -38,21 +39,14 @@ pub fn word_at(s: &[u8], i: usize) -> usize
     requires { i + 8 ≤ length s.now }
     ensures { result ≡ word s.now i }
 {
-    half_at(s, i)
-        + 65536 * half_at(s, i + 2)
-        + 4294967296 * half_at(s, i + 4)
-        + 281474976710656 * half_at(s, i + 6)
+    usize::from_le_bytes(bytes_at(s, i))
 }
 
 // The signed number whose 64 bits in two's complement are those of u.
 pub fn signed(u: usize) -> i64
     ensures { result ≡ to_z w64 u }
 {
-    if u < 9223372036854775808 {
-        u as i64
-    } else {
-        -1 - ((18446744073709551615 - u) as i64)
-    }
+    (u as u64).cast_signed()
 }
 
 // The signed 64-bit number whose eight bytes start at i.
@@ -60,7 +54,7 @@ pub fn signed_at(s: &[u8], i: usize) -> i64
     requires { i + 8 ≤ length s.now }
     ensures { result ≡ signed_word s.now i }
 {
-    signed(word_at(s, i))
+    i64::from_le_bytes(bytes_at(s, i))
 }
 
 // Bit i of a number.
@@ -76,17 +70,7 @@ pub fn is_bit(m: usize, i: usize) -> bool
     requires { m < 256 }
     ensures { result ≡ bit i m }
 {
-    if 64 <= i {
-        return false;
-    }
-    bit_of(i, m)
-}
-
-// A count as a number.
-fn wide_count(x: u32) -> usize
-    ensures { result ≡ x }
-{
-    x as usize
+    i < 64 && bit_of(i, m)
 }
 
 // The count of ones in a mask.
@@ -94,7 +78,7 @@ pub fn ones_of(m: usize) -> usize
     requires { m < 256 }
     ensures { result ≡ ones m }
 {
-    wide_count(u8::count_ones(m as u8))
+    m.count_ones() as usize
 }
 
 // 2 to the power i.
@@ -110,10 +94,7 @@ pub fn marked(m: usize, k: usize, b: bool) -> usize
     requires { (k < 63) × (m < 2 ^ k) }
     ensures { result ≡ marked m k b }
 {
-    if b {
-        return m + power(k);
-    }
-    m
+    if b { m + power(k) } else { m }
 }
 
 // Where the record of foreign key k begins.
@@ -128,11 +109,5 @@ pub fn key_start(s: &[u8], k: usize) -> usize
 pub fn without(m: usize, q: usize) -> usize
     ensures { Marks (λ k. bit k m && not (bit k q)) 32 result }
 {
-    let mut rest = 0;
-    let mut k = 0;
-    while k < 32 {
-        rest = marked(rest, k, bit_of(k, m) & !bit_of(k, q));
-        k += 1;
-    }
-    rest
+    m & !q & 0xffff_ffff
 }

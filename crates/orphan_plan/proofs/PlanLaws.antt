@@ -13,9 +13,7 @@ use Rattle.schema.specs.Records.{ForeignKey, no_key}
 use Rattle.schema.specs.Fields.{schema_of}
 use Rattle.rules.specs.declared.Refusal.{Refusal}
 use Rattle.rules.specs.declared.Refusal.TheVariants.{ListTooShort}
-use Rattle.rules.specs.declared.Verdict.TheVariants.{Pass, Fail}
-use Rattle.rules.specs.declared.Listed.{Listed}
-use Rattle.rules.specs.Lists.{𝟘}
+use Rattle.std.specs.Prelude.{Ok, Err}
 use Rattle.rules.specs.Refusals.{failing}
 use Rattle.rules.specs.Rows.{Tables}
 use Rattle.rules.specs.Keys.{orphans}
@@ -27,8 +25,7 @@ use Rattle.bridge.proofs.QuestionLaws.{sound_passes, refused_first}
 use Rattle.orphan_scan.specs.declared.Cursor.{Cursor}
 use Rattle.orphan_scan.specs.Scan.{Starts}
 use Rattle.orphan_scan.proofs.ScanLaws.{all_left}
-use Rattle.orphan_plan.specs.declared.Plan.{Plan}
-use Rattle.orphan_plan.specs.Planned.{Planned, refused_by}
+use Rattle.orphan_plan.specs.Planned.{Planned}
 
 -- ---- how many orphans are left from foreign key k on
 module _ (tabs : Tables) (fs : List ForeignKey) (k : ℕ) where
@@ -51,28 +48,27 @@ tables_in bs ws = (work_of (schema_of bs) ws).tabs
 
 module _ (bs : List ℕ) (ws : List ℤ) (room : ℕ) where
   -- ---- the plan of a list that is refused
-  refused_by_lem : {x : Plan} (c : Refusal) → x.answer ≡ refused_by c → list_verdict bs ws room ≡ Fail c → Planned bs ws room x
+  refused : (c : Refusal) → list_verdict bs ws room ≡ Err c → Planned bs ws room (Err c)
   unfolding list_answer listed
-  refused_by_lem c e v =
-      let none = ap (λ (r : Listed). r.count) e in
-      record { answer_is = e ∙ sym (rw v refl); fits = omega (arith, none); begun = λ z. absurd (omega (arith, z, none)) }
+  refused c v =
+      record { answer_is = sym (rw v refl); fits = tt; begun = tt }
 
   -- by 1, 3 or 10
-  pub refused_area : {x : Plan} (c : Refusal) → x.answer ≡ refused_by c → area_verdict bs ws Pass ≡ Fail c → Planned bs ws room x
+  pub refused_area : (c : Refusal) → area_verdict bs ws (Ok tt) ≡ Err c → Planned bs ws room (Err c)
   unfolding list_verdict
-  refused_area c e v = refused_by_lem c e (refused_first bs ws c v _)
+  refused_area c v = refused c (refused_first bs ws c v _)
 
   -- ---- the plan of a sound area
   module _ (h : Sound bs ws) (total : ℕ) (e : total ≡ orphan_total (schema_of bs).keys (tables_in bs ws)) where
-    pub too_short : {x : Plan} → x.answer ≡ refused_by ListTooShort → room < total → Planned bs ws room x
+    pub too_short : room < total → Planned bs ws room (Err ListTooShort)
     unfolding list_verdict failing work_of
-    too_short p l = refused_by_lem ListTooShort p (sound_passes bs ws h _ ∙ rw (lt-ltb room _ (rw e at l)) refl)
+    too_short l = refused ListTooShort (sound_passes bs ws h _ ∙ rw (lt-ltb room _ (rw e at l)) refl)
 
-    passes : total ≤ room → list_verdict bs ws room ≡ Pass
+    passes : total ≤ room → list_verdict bs ws room ≡ Ok tt
     unfolding list_verdict failing work_of
     passes l = sound_passes bs ws h _ ∙ rw (le-ltb room _ (rw e at l)) refl
 
-    pub planned : {x : Cursor} → total ≤ room → (0 < length (schema_of bs).keys → Starts bs x) → Planned bs ws room (record { answer = record { code = 𝟘; count = total }; at = x })
+    pub planned : {x : Cursor} → total ≤ room → (0 < length (schema_of bs).keys → Starts bs x) → Planned bs ws room (Ok (record { total = total; at = x }))
     unfolding list_answer listed work_of
     planned l st =
         record {

@@ -1,6 +1,7 @@
 -- The orphan list, from a row of a foreign key on, and the search that goes down it.
 -- Assumes nothing.
-use Rattle.std.specs.Prelude.{◌≡◌, List, [], ◌∷◌, ◌++◌, ℕ, suc, ◌+◌, ◌<◌, ℤ, length, get_or, drop}
+use Rattle.std.specs.Prelude.{◌≡◌, Some, None, List, [], ◌∷◌, ◌++◌, ℕ, suc, ◌+◌, ◌<◌, ℤ, length, get_or, drop}
+use Rattle.std.specs.declared.option.Option.{Option}
 use Rattle.schema.specs.Records.{key_of}
 use Rattle.schema.specs.Fields.{schema_of}
 use Rattle.rules.specs.declared.Orphan.{Orphan}
@@ -8,7 +9,6 @@ use Rattle.rules.specs.Keys.{orphan}
 use Rattle.rules.specs.OrphanList.{orphan_rows, orphans_from}
 use Rattle.bridge.specs.Fit.{work_of}
 use Rattle.bridge.specs.Ready.{Ready}
-use Rattle.orphans.specs.declared.KeyRows.{KeyRows}
 use Rattle.orphans.specs.KeyRows.{Searched}
 use Rattle.orphan_scan.specs.declared.Cursor.{Cursor}
 
@@ -27,10 +27,10 @@ module _ (b : List ℕ) (a : List ℤ) where
   abbrev pub orphans_at : Cursor → List Orphan
   orphans_at x = orphans_left x.orphan.key x.from
 
-  -- from row `from` of foreign key k on, x is the first that is an orphan; none is where there is no child row x
-  pub record FirstRow (k : ℕ) (key : KeyRows) (from x : ℕ) : Type 0 where
-    pub rest : orphans_left k from ≡ orphans_left k x
-    pub heads : x < key.children.count → orphans_left k x ≡ record { key = k; row = x } ∷ orphans_left k (x + 1)
+  -- from row `from` of foreign key k on, x is the first that is an orphan; where there is none, the list goes on with the next key
+  abbrev pub FirstRow : ℕ → ℕ → Option ℕ → Type 0
+  FirstRow k from (Some x) = (x < 1024) × (orphans_left k from ≡ record { key = k; row = x } ∷ orphans_left k (x + 1))
+  FirstRow k from None = orphans_left k from ≡ orphans_from_key (suc k)
 
   -- an orphan is left for the cursor x
   pub record Unfinished (x : Cursor) : Type 0 where

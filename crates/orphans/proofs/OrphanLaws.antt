@@ -1,7 +1,7 @@
 -- The child rows of a foreign key, as they stand in the area and as they are judged.
 -- Assumes nothing.
-use mathlib.Core.Path.{◌≡◌, refl, sym, ap, ◌∙◌}
-use mathlib.Core.Bool.{Bool, true, false}
+use mathlib.Core.Path.{◌≡◌, refl, sym, ap, ◌∙◌, subst}
+use mathlib.Core.Bool.{Bool}
 use mathlib.Core.List.{List, []}
 use Prim.Native.Nat.{ℕ, ◌+◌, ◌*◌, ◌≤◌, ◌<◌}
 use native.Mathlib.Omega.{arith}
@@ -22,7 +22,9 @@ use Rattle.rows.specs.Standing.{RowAt, PlacedAt}
 use Rattle.bridge.proofs.LoopLaws.{count_none, count_more}
 use Rattle.rows.proofs.TableLaws.{child_table_lem, rows_few, placed_at, row_in_lem, row_stands}
 use Rattle.orphans.specs.declared.KeyRows.{KeyRows}
-use Rattle.orphans.specs.KeyRows.{KeyRowsOf, Searched}
+use Rattle.orphans.specs.KeyRows.{KeyRowsOf, RowsIfWhole, Searched}
+use Rattle.std.specs.declared.option.Option.{Option}
+use Rattle.std.specs.Prelude.{Some, None}
 
 -- an image is the row with zeros after it
 image_same : (k : ForeignKey) (ys : List Row) (a : List ℤ) (p w : ℕ) {x : Row} → x ≡ padded 9 (take w (drop p a)) → orphan k ys x ≡ orphan k ys (row_in a p w)
@@ -89,26 +91,10 @@ module _ (b : List ℕ) (a : List ℤ) (k : ℕ) where
 
   -- ---- what is searched
 
-  module _ (x : KeyRows) (e : Searched b k x) where
-    -- a key with a row to search is not broken
-    pub row_whole : (j : ℕ) → j < x.children.count → KeyRowsOf b k x
-    row_whole j l = go (key_of (schema_of b) k).broken refl
-      where
-        go : (u : Bool) → (key_of (schema_of b) k).broken ≡ u → KeyRowsOf b k x
-        go false u = e.whole u
-        go true u = absurd (omega (arith, e.none u))
+  -- a key that is not broken has its rows; a broken one has no orphan
+  pub rows_there : {o : Option KeyRows} → Searched b k o → {x : KeyRows} → o ≡ Some x → KeyRowsOf b k x
+  rows_there e i = subst (RowsIfWhole b k) i e.rows
 
-    pub searched_few : Ready b a → x.children.count ≤ 1024
-    searched_few h = go (key_of (schema_of b) k).broken refl
-      where
-        go : (u : Bool) → (key_of (schema_of b) k).broken ≡ u → x.children.count ≤ 1024
-        go false u = children_few h x (e.whole u)
-        go true u = omega (arith, e.none u)
-
-    -- past the last row there is no orphan
-    pub searched_none : Ready b a → (j : ℕ) → x.children.count ≤ j → count is_alone (drop j child_rows) ≡ 0
-    searched_none h j l = go (key_of (schema_of b) k).broken refl
-      where
-        go : (u : Bool) → (key_of (schema_of b) k).broken ≡ u → count is_alone (drop j child_rows) ≡ 0
-        go false u = none_left h x (e.whole u) j l
-        go true u = all.count_none is_alone (broken_orphan (key_of (schema_of b) k) u (get_or (work_of (schema_of b) a).tabs (key_of (schema_of b) k).parent [])) (drop j child_rows)
+  pub none_alone : {o : Option KeyRows} → Searched b k o → o ≡ None → (j : ℕ) → count is_alone (drop j child_rows) ≡ 0
+  none_alone e i j =
+      all.count_none is_alone (broken_orphan (key_of (schema_of b) k) (subst (RowsIfWhole b k) i e.rows) (get_or (work_of (schema_of b) a).tabs (key_of (schema_of b) k).parent [])) (drop j child_rows)

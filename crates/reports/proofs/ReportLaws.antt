@@ -1,14 +1,12 @@
 -- An answer by its figures.
 -- Assumes nothing.
 use mathlib.Core.Path.{◌≡◌, refl, ap₂}
-use mathlib.Core.List.{List}
 use Prim.Native.Nat.{ℕ}
 use lib.IntN.{ℤ}
-use Rattle.rules.specs.declared.Answer.{Answer}
-use Rattle.rules.specs.Refusals.{shown}
+use Rattle.rules.specs.Refusals.{Answer, shown}
 use Rattle.run_tally.specs.declared.Tally.{Tally}
 use Rattle.run_tally.specs.Tallies.{tallied}
-use Rattle.lines.specs.Text.{put, answer_line}
+use Rattle.lines.specs.Text.{answer_line}
 use Rattle.reports.specs.Reports.{line_of, counted_in}
 
 -- by its figures: the tally, and the line
@@ -16,7 +14,7 @@ pub count_told : (t : Tally) (a : Answer) {code changed : ℕ} → code ≡ (sho
 unfolding counted_in
 count_told t a e f = ap₂ (tallied t) e f
 
-pub line_told : (p : ℕ × List ℕ) (a : Answer) {code changed : ℕ} {net : ℤ} → code ≡ (shown a).0 → changed ≡ (shown a).1 → net ≡ (shown a).2
-    → put (answer_line code changed net) p ≡ put (line_of a) p
+pub line_told : (a : Answer) {code changed : ℕ} {net : ℤ} → code ≡ (shown a).0 → changed ≡ (shown a).1 → net ≡ (shown a).2
+    → answer_line code changed net ≡ line_of a
 unfolding line_of
-line_told p a e f g = rw (e, f, g) refl
+line_told a e f g = rw (e, f, g) refl

@@ -8,6 +8,7 @@ use native.Mathlib.Omega.{arith}
 use borrow.Author.Tests.{eq-eqb, ne_eqb}
 use lib.Dec.{eqb}
 use lib.IntN.{ℤ}
+use mir.Val.{bool_byte}
 use lib.ListN.{length, get_or, take}
 use Rattle.schema.specs.Records.{ForeignKey, parent_key, key_of}
 use Rattle.schema.specs.Fields.{schema_of}
@@ -18,7 +19,6 @@ use Rattle.rules.specs.Keys.{same_key, full_key, orphan, takes, same_parent_key,
 use Rattle.bridge.specs.Fit.{work_of}
 use Rattle.bridge.specs.Ready.{Placed}
 use Rattle.bridge.proofs.MapLaws.{parent_plain, maps_plain, same_plain}
-use Rattle.bridge.proofs.NullKeys.{vacant_orphan}
 use Rattle.rows.specs.declared.TableRows.{TableRows}
 use Rattle.rows.specs.Standing.{Standing, RowsOf, rows_in}
 use Rattle.rows.specs.declared.KeyPairs.{KeyPairs}
@@ -32,15 +32,22 @@ use Rattle.moves.specs.Movement.{pick, except_if, own_orphan, stranded_rows}
 use Rattle.moves.proofs.Taken.{stranded_scan, stranded_rows_lem, pick_zero}
 use Rattle.row_orphans.specs.RowOrphans.{taken_rows, has_twin}
 
+-- ---- a test as a number
+
+pub byte_is : (b : Bool) → bool_byte b ≡ one b
+unfolding one
+byte_is true = refl
+byte_is false = refl
+
+pub byte_few : (b : Bool) → bool_byte b ≤ 1
+byte_few true = omega arith
+byte_few false = omega arith
+
 -- ---- the row itself
 module _ (k : ForeignKey) (t : ℕ) (x : Row) (tabs : Tables) where
   pub own_other : (k.child ≡ t → ⊥) → 0 ≡ own_orphan k t x tabs
   unfolding own_orphan pick
   own_other h = sym (rw (ne_eqb k.child t h))
-
-  pub own_vacant : live x ≡ false → 0 ≡ own_orphan k t x tabs
-  unfolding own_orphan one
-  own_vacant h = sym (ap (λ (b : Bool). pick (eqb k.child t) (one b)) (vacant_orphan k (get_or tabs k.parent []) x h) ∙ pick_zero (eqb k.child t))
 
   pub own_is : k.child ≡ t → {b : Bool} → orphan k (get_or tabs k.parent []) x ≡ b → one b ≡ own_orphan k t x tabs
   unfolding own_orphan pick

@@ -1,14 +1,13 @@
 -- The orphans that a row makes by having one image and not another.
 -- Assumes nothing.
-use Rattle.std.specs.Prelude.{◌≡◌, Bool, not, ◌&&◌, List, [], map, ℕ, ◌+◌, ◌<◌, eqb, ℤ, pos, length, get_or}
-use Rattle.schema.specs.Bytes.{bit}
-use Rattle.schema.specs.Records.{ForeignKey, Schema, key_of}
-use Rattle.schema.specs.Fields.{schema_of}
+use Rattle.std.specs.Prelude.{◌≡◌, Bool, true, false, List, [], map, ℕ, ◌+◌, eqb, ℤ, pos, get_or}
+use Rattle.schema.specs.Records.{ForeignKey, Schema}
 use Rattle.rules.specs.Lists.{any, count, padded, except}
 use Rattle.rules.specs.Rows.{Row, Tables}
 use Rattle.rules.specs.Keys.{takes, same_parent_key}
-use Rattle.moves.specs.Movement.{pick, except_if, own_orphan, stranded_rows}
-use Rattle.table_keys.specs.Touched.{whole_at, window_at}
+use Rattle.moves.specs.Movement.{except_if, own_orphan, stranded_rows}
+use Rattle.rows.specs.KeyColumns.{WholeKey, PlainKey}
+use Rattle.windows.specs.WindowKey.{WindowedKey}
 
 module _ (k : ForeignKey) (t r : ℕ) where
   -- the child rows, but for row r of table t, that have x's parent key
@@ -27,15 +26,8 @@ has_twin k r x tabs = any (same_parent_key k x) (except r (get_or tabs k.parent 
 unfoldable pub row_counts : Schema → ℕ → ℕ → Row → Row → Tables → List ℤ
 row_counts s t r x y tabs = padded 32 (map (λ k. pos (row_orphans k t r x y tabs)) s.keys)
 
--- ---- keys without a window apart from those with one
-
--- the mask has the foreign keys that touch table t, are not broken and have no window
-pub record PlainKeys (b : List ℕ) (t m : ℕ) : Type 0 where
-  pub each : (k : ℕ) → k < length (schema_of b).keys → bit k m ≡ whole_at t (key_of (schema_of b) k) && not (window_at t (key_of (schema_of b) k))
-
--- the orphans of a key, 0 where it has a window
-unfoldable pub plain_orphans : ForeignKey → ℕ → ℕ → Row → Row → Tables → ℕ
-plain_orphans k t r x y tabs = pick (not (window_at t k)) (row_orphans k t r x y tabs)
-
-unfoldable pub plain_counts : Schema → ℕ → ℕ → Row → Row → Tables → List ℤ
-plain_counts s t r x y tabs = padded 32 (map (λ k. pos (plain_orphans k t r x y tabs)) s.keys)
+-- foreign key k of an accepted schema is not broken, and has a window or none
+pub record KindOf (b : List ℕ) (k : ℕ) (windowed : Bool) : Type 0 where
+  pub whole_key : WholeKey b k
+  pub plain : windowed ≡ false → PlainKey b k
+  pub window : windowed ≡ true → WindowedKey b k

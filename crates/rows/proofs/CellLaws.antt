@@ -3,14 +3,13 @@
 use mathlib.Core.Path.{◌≡◌, sym, ap, ap₂, ◌∙◌}
 use mathlib.Core.Bool.{Bool, true, false, not, ◌&&◌}
 use mathlib.Core.List.{List, [], ◌∷◌}
-use Prim.Native.Nat.{ℕ, suc, ◌+◌, ◌≤◌, ◌<◌}
+use Prim.Native.Nat.{ℕ, suc, ◌+◌, ◌-◌, ◌≤◌, ◌<◌}
 use native.Mathlib.Nat.{add-zero}
 use native.Mathlib.Numerals.{add-one}
 use native.Mathlib.Omega.{arith}
-use borrow.Author.Tests.{le-leb, lt-leb}
 use lib.Dec.{ltb}
 use lib.IntN.{ℤ}
-use lib.ListN.{length, get_or, take, drop, length-take, drop_of_length-le}
+use lib.ListN.{length, get_or, take, drop, length-take, length-drop, drop_of_length-le}
 use lib.Seq.{get_or-take, get_or-drop, drop-cons, length-take-le}
 use Rattle.schema.specs.Bounds.{Columns}
 use Rattle.schema.specs.Bytes.{bit}
@@ -22,20 +21,22 @@ use Rattle.rules.specs.Rows.{Row, live_state, live, null_at, value_at}
 use Rattle.rules.specs.Keys.{full_key, half_key}
 use Rattle.rules.specs.Change.{not_null_broken}
 use Rattle.bridge.specs.Ready.{row_in}
+use Rattle.rows.specs.Standing.{RowAt}
 use Rattle.bridge.proofs.Tests.{and_same}
 use Rattle.bridge.proofs.CountLaws.{count_some, count_not_all}
-
-pub live_below : (n : ℕ) → n < 256 → false ≡ live_state n
-unfolding live_state
-live_below n h = rw (lt-leb 256 n h)
-
-pub live_above : (n : ℕ) → 256 ≤ n → ltb n 512 ≡ live_state n
-unfolding live_state
-live_above n h = rw (le-leb 256 n h)
 
 pub live_is : (x : Row) {n : ℕ} → n ≡ nat_of (get_or x 0 𝟘) → live_state n ≡ live x
 unfolding live
 live_is x e = ap live_state e
+
+-- ---- a row as a part of the area
+module _ (a : List ℤ) (p w : ℕ) where
+  pub row_is : take (p + w - p) (drop p a) ≡ row_in a p w
+  unfolding row_in
+  row_is = let e : p + w - p ≡ w = omega arith in ap (λ (k : ℕ). take k (drop p a)) e
+
+  pub row_long : RowAt a p w → length (take (p + w - p) (drop p a)) ≡ w
+  row_long h = let e : p + w - p ≡ w = omega arith in simp (e, length-take) (omega (arith, h.within, length-drop p a))
 
 -- ---- a word of a row
 word_in : (a : List ℤ) (p w i : ℕ) → i < w → get_or (row_in a p w) i 𝟘 ≡ get_or a (p + i) 𝟘

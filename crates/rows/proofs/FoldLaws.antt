@@ -109,16 +109,16 @@ module _ (image : Row) (f : ℕ) (ds : List ℕ) where
       at true q = let r : j ≡ i = eqb-true j i q in rw r (get_or-set_same vs i v 𝟘 l ∙ e ∙ ap (λ (m : ℕ). folded (bit i f) (get_or image m 𝟘)) (add-one (get_or ds i 0)))
       at false q = let r : j ≡ i → ⊥ = eqb-false j i q in get_or-set_other vs i j v 𝟘 r ∙ g j (omega arith)
 
-  pub gathered_all : (n : ℕ) (vs : List ℤ) → n ≤ length ds → n ≤ length vs → Gathered n vs → take n vs ≡ compared_values (folds_in n f) (key_values (take n ds) image)
+  pub gathered_all : (vs : List ℤ) → length ds ≤ length vs → Gathered (length ds) vs → take (length ds) vs ≡ compared_values (folds_in (length ds) f) (key_values ds image)
   unfolding key_values
-  gathered_all n vs l k g =
-      let size : length (take n ds) ≡ n = length-take-le n ds l in
-      let many : length (map (value_at image) (take n ds)) ≡ n = length-map (take n ds) (value_at image) ∙ size in
+  gathered_all vs k g =
+      let n : ℕ = length ds in
+      let many : length (map (value_at image) ds) ≡ n = length-map ds (value_at image) in
       let width : length (take n vs) ≡ n = length-take-le n vs k in
-      ext_get_or 𝟘 (take n vs) (compared_values (folds_in n f) (map (value_at image) (take n ds))) (width ∙ sym many ∙ sym (compared_length (folds_in n f) (map (value_at image) (take n ds))))
+      ext_get_or 𝟘 (take n vs) (compared_values (folds_in n f) (map (value_at image) ds)) (width ∙ sym many ∙ sym (compared_length (folds_in n f) (map (value_at image) ds)))
       (λ i h.
       let b : i < n = omega (arith, width) in
       get_or-take n vs i 𝟘 b
       ∙ g i b
-      ∙ ap₂ folded (sym (folds_get f n i b)) (ap (value_at image) (sym (get_or-take n ds i 0 b)) ∙ sym (get_map (value_at image) (take n ds) i 0 𝟘 (omega (arith, size))))
-      ∙ sym (compared_get (folds_in n f) (map (value_at image) (take n ds)) i (omega (arith, many))))
+      ∙ ap₂ folded (sym (folds_get f n i b)) (sym (get_map (value_at image) ds i 0 𝟘 b))
+      ∙ sym (compared_get (folds_in n f) (map (value_at image) ds) i (omega (arith, many))))

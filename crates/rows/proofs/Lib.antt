@@ -1,3 +1,4 @@
+pub mod ChainLaws
 pub mod CellLaws
 pub mod SoughtLaws
 pub mod FoldLaws

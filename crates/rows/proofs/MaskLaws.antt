@@ -12,7 +12,7 @@ use lib.Dec.{leb}
 use lib.ListN.{length, get_or, set, take, drop}
 use lib.Pow.{pow_pos, pow_mono}
 use lib.Seq.{take-suc-set, take-set-le, get_or-take, length-take-le}
-use Rattle.schema.specs.declared.SchemaAnswer.TheVariants.{Accepted}
+use Rattle.schema.specs.Check.{Accepted}
 use Rattle.schema.specs.Bounds.{Columns}
 use Rattle.schema.specs.Bytes.{bit, folds_of}
 use Rattle.schema.specs.Records.{Table, table_of}
@@ -54,21 +54,6 @@ from_start m = refl
 from_end : (m i : ℕ) → 8 ≤ i → mask_columns_from m i (8 - i) ≡ []
 unfolding mask_columns_from
 from_end m i h = let e : 8 - i ≡ 0 = omega arith in rw e
-
--- how many there are: so far, and to come
-pub number_start : (m : ℕ) → 0 + length (mask_columns_from m 0 (8 - 0)) ≡ length (mask_columns m)
-number_start m = zero-add _ ∙ ap length (sym (from_start m))
-
-pub number_end : (m i : ℕ) → 8 ≤ i → length (mask_columns_from m i (8 - i)) ≡ 0
-number_end m i h = ap length (from_end m i h)
-
-pub number_step : (m i : ℕ) → i < 8 → length (mask_columns_from m i (8 - i)) ≡ one (bit i m) + length (mask_columns_from m (i + 1) (8 - (i + 1)))
-unfolding one
-number_step m i h = ap length (from_step m i h) ∙ go (bit i m) (mask_columns_from m (i + 1) (8 - (i + 1)))
-  where
-    go : (t : Bool) (l : List ℕ) → length (cons_if t i l) ≡ one t + length l
-    go true l = omega arith
-    go false l = omega arith
 
 -- the list so far, and the columns to come
 pub list_start : (m : ℕ) (l : List ℕ) → mask_columns m ≡ take 0 l ++ mask_columns_from m 0 (8 - 0)

@@ -3,12 +3,14 @@
 use mathlib.Core.Path.{◌≡◌, refl, sym, ap, ap₂, ◌∙◌}
 use mathlib.Core.Bool.{Bool, true, false, not, ◌&&◌, and-true, and-false}
 use mathlib.Core.List.{List, ◌∷◌}
-use Prim.Native.Nat.{ℕ, suc, ◌+◌, ◌≤◌, ◌<◌}
+use Prim.Native.Nat.{ℕ, zero, suc, ◌+◌, ◌≤◌, ◌<◌}
+use native.Mathlib.Numerals.{add-one}
 use native.Mathlib.Omega.{arith}
 use lib.IntN.{ℤ}
 use lib.ListN.{length, get_or, take, drop}
 use Rattle.schema.specs.Bounds.{Columns}
 use Rattle.schema.specs.Bytes.{bit}
+use Rattle.schema.specs.Ranges.{all_from}
 use Rattle.schema.proofs.RangeLaws.{and_right}
 use Rattle.rules.specs.Lists.{𝟘, any, count}
 use Rattle.rules.specs.Values.{nat_of, same_word, folded, same_value}
@@ -16,8 +18,7 @@ use Rattle.rules.specs.Rows.{Row, live, null_at, value_at}
 use Rattle.rules.specs.Keys.{full_key}
 use Rattle.rules.specs.Found.{cell_is}
 use Rattle.rules.specs.KeyValues.{key_values, holds_key, has_key}
-use Rattle.bridge.specs.Ready.{row_in}
-use Rattle.bridge.proofs.Tests.{fails, and_same}
+use Rattle.bridge.proofs.Tests.{fails}
 use Rattle.bridge.proofs.KeyLaws.{same_sym}
 use Rattle.bridge.proofs.ValueLaws.{key_values_lem}
 use Rattle.folding.proofs.FoldLaws.{kept_value}
@@ -25,50 +26,54 @@ use Rattle.rows.specs.declared.SoughtKey.{SoughtKey}
 use Rattle.rows.specs.KeyColumns.{folds_in}
 use Rattle.rows.specs.Sought.{sought_folds, sought_columns, sought_values, compared_values, has_value, has_sought, SoughtIn, with_key, SoughtOf}
 use Rattle.rows.proofs.FoldLaws.{folds_step, holds_compared, compared_kept}
-use Rattle.rows.proofs.CellLaws.{value_in, null_in_lem, part_step, columns_step, columns_end, widen}
+use Rattle.rows.proofs.CellLaws.{part_step, columns_step, columns_end, widen}
 
 -- ---- one value
-module _ (a : List ℤ) (p w : ℕ) (f : Bool) (c : ℕ) (v : ℤ) (h : suc c < w) (k : folded f v ≡ v) where
-  value_is : {b : Bool} → same_word (folded f (get_or a (p + c + 1) 𝟘)) v ≡ b → same_value f v (value_at (row_in a p w) c) ≡ b
+module _ (row : Row) (f : Bool) (c : ℕ) (v : ℤ) (k : folded f v ≡ v) where
+  value_is : {b : Bool} → same_word (folded f (get_or row (c + 1) 𝟘)) v ≡ b → same_value f v (value_at row c) ≡ b
+  unfolding value_at
   value_is e =
-      kept_value f v (value_at (row_in a p w) c) k
-      ∙ same_sym v (folded f (value_at (row_in a p w) c))
-      ∙ ap (λ (z : ℤ). same_word (folded f z) v) (value_in a p w c h)
+      kept_value f v (get_or row (suc c) 𝟘) k
+      ∙ same_sym v (folded f (get_or row (suc c) 𝟘))
+      ∙ ap (λ (i : ℕ). same_word (folded f (get_or row i 𝟘)) v) (sym (add-one c))
       ∙ e
 
-  pub value_differs : same_word (folded f (get_or a (p + c + 1) 𝟘)) v ≡ false → false ≡ cell_is f false v c (row_in a p w)
+  pub value_differs : same_word (folded f (get_or row (c + 1) 𝟘)) v ≡ false → false ≡ cell_is f false v c row
   unfolding cell_is
-  value_differs e =
-      let filled = not (null_at (row_in a p w) c) in
-      sym (ap (λ (t : Bool). filled && t) (value_is e) ∙ and-false filled)
+  value_differs e = sym (ap (λ (t : Bool). not (null_at row c) && t) (value_is e) ∙ and-false (not (null_at row c)))
 
-  pub value_same : same_word (folded f (get_or a (p + c + 1) 𝟘)) v ≡ true → not (bit c (nat_of (get_or a p 𝟘))) ≡ cell_is f false v c (row_in a p w)
-  unfolding cell_is
-  value_same e =
-      sym (and_same (ap not (null_in_lem a p w c (omega arith))) (value_is e) ∙ and-true (not (bit c (nat_of (get_or a p 𝟘)))))
+  pub value_same : same_word (folded f (get_or row (c + 1) 𝟘)) v ≡ true → not (bit c (nat_of (get_or row 0 𝟘))) ≡ cell_is f false v c row
+  unfolding cell_is null_at
+  value_same e = sym (ap (λ (t : Bool). not (bit c (nat_of (get_or row 0 𝟘))) && t) (value_is e) ∙ and-true (not (bit c (nat_of (get_or row 0 𝟘)))))
 
 -- ---- all of them
 module _ (f n : ℕ) (cs : List ℕ) (vs : List ℤ) (x : Row) where
   abbrev held_from : ℕ → Bool
   held_from i = holds_key (drop i (folds_in n f)) (drop i (take n cs)) (drop i (take n vs)) x
 
-  pub key_none : (i : ℕ) → n ≤ i → true ≡ held_from i
-  unfolding holds_key
-  key_none i h = ap (λ (l : List ℕ). holds_key (drop i (folds_in n f)) l (drop i (take n vs)) x) (sym (columns_end n cs i h))
+  abbrev pub held_at : ℕ → Bool
+  held_at i = cell_is (bit i f) false (get_or vs i 𝟘) (get_or cs i 0) x
 
-  module _ {w : ℕ} (k : Columns w n cs) (size : length vs ≡ 8) (i : ℕ) (h : i < n) where
-    step : held_from i ≡ cell_is (bit i f) false (get_or vs i 𝟘) (get_or cs i 0) x && held_from (i + 1)
+  none : (i : ℕ) → n ≤ i → true ≡ held_from i
+  unfolding holds_key
+  none i h = ap (λ (l : List ℕ). holds_key (drop i (folds_in n f)) l (drop i (take n vs)) x) (sym (columns_end n cs i h))
+
+  module _ {w : ℕ} (k : Columns w n cs) (size : length vs ≡ 8) where
+    step : (i : ℕ) → i < n → held_from i ≡ held_at i && held_from (i + 1)
     unfolding holds_key
-    step =
+    step i h =
         ap (λ (l : List Bool). holds_key l (drop i (take n cs)) (drop i (take n vs)) x) (folds_step f n i h)
         ∙ ap₂ (λ (l : List ℕ) (m : List ℤ). holds_key (bit i f ∷ drop (i + 1) (folds_in n f)) l m x) (columns_step n cs i h (omega (arith, k.few, k.size)))
         (part_step 𝟘 n vs i h (omega (arith, k.few, size)))
 
-    pub key_miss : cell_is (bit i f) false (get_or vs i 𝟘) (get_or cs i 0) x ≡ false → held_from i ≡ false
-    key_miss e = step ∙ ap (λ (b : Bool). b && held_from (i + 1)) e
+    all_held : (j i : ℕ) → i + j ≡ n → all_from held_at j i ≡ held_from i
+    unfolding all_from
+    all_held zero i e = none i (omega arith)
+    all_held (suc j) i e =
+        ap (λ (b : Bool). held_at i && b) (all_held j (suc i) (omega arith) ∙ ap held_from (sym (add-one i))) ∙ sym (step i (omega arith))
 
-    pub key_hit : cell_is (bit i f) false (get_or vs i 𝟘) (get_or cs i 0) x ≡ true → held_from i ≡ held_from (i + 1)
-    key_hit e = step ∙ ap (λ (b : Bool). b && held_from (i + 1)) e
+    pub key_held : all_from held_at n 0 ≡ holds_key (folds_in n f) (take n cs) (take n vs) x
+    key_held = all_held n 0 (omega arith)
 
 -- ---- of a live row
 module _ (x : Row) {b : Bool} where

@@ -7,12 +7,11 @@ use native.Mathlib.Omega.{arith}
 use lib.IntN.{ℤ}
 use lib.ListN.{length, get_or, take, drop}
 use lib.Seq.{ext_get_or}
-use Rattle.schema.specs.declared.SchemaAnswer.TheVariants.{Accepted}
+use Rattle.schema.specs.Check.{Accepted, check_schema}
 use Rattle.schema.specs.Bounds.{Columns}
 use Rattle.schema.specs.Bytes.{folds_of}
 use Rattle.schema.specs.Records.{ForeignKey, child_key, unique_columns, table_of, key_of}
 use Rattle.schema.specs.Fields.{schema_of}
-use Rattle.schema.specs.Check.{check_schema}
 use Rattle.schema.specs.Sizes.{table_size, rows_size, table_offset, area_size}
 use Rattle.schema.proofs.ListLaws.{length_from, get_list}
 use Rattle.schema.proofs.KeyLaws.{parent_key}

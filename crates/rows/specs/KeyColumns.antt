@@ -1,19 +1,22 @@
 -- The columns of keys, as arrays.
 -- Assumes nothing.
-use Rattle.std.specs.Prelude.{◌≡◌, Bool, false, List, [], ℕ, suc, ◌<◌, length, get_or, take}
-use Rattle.schema.specs.declared.SchemaAnswer.TheVariants.{Accepted}
+use Rattle.std.specs.Prelude.{◌≡◌, Bool, false, List, [], ℕ, suc, ◌<◌, length, get_or, take, EachIndex}
+use Rattle.schema.specs.Check.{Accepted, check_schema}
 use Rattle.schema.specs.Bounds.{Columns}
 use Rattle.schema.specs.Bytes.{bit}
 use Rattle.schema.specs.Ranges.{list_from}
 use Rattle.schema.specs.Records.{table_of, key_of}
 use Rattle.schema.specs.Fields.{schema_of}
-use Rattle.schema.specs.Check.{check_schema}
 use Rattle.rules.specs.Keys.{mask_columns}
 use Rattle.rows.specs.declared.KeyPairs.{KeyPairs}
 
 -- which of n places are folded, by the bits of a number
 unfoldable pub folds_in : ℕ → ℕ → List Bool
 folds_in n f = list_from (λ i. bit i f) n 0
+
+-- columns that an image has
+abbrev pub OfImage : List ℕ → Type 0
+OfImage cs = EachIndex cs (λ i. get_or cs i 0 < 8)
 
 -- foreign key k of an accepted schema is not broken
 pub record WholeKey (b : List ℕ) (k : ℕ) : Type 0 where

@@ -13,7 +13,7 @@ use Rattle.schema.specs.declared.Action.TheVariants.{Cascade}
 use Rattle.schema.specs.declared.Match.{Match}
 use Rattle.schema.specs.declared.Match.TheVariants.{Simple, Full}
 use Rattle.rules.specs.declared.Refusal.TheVariants.{JournalFull, BrokenKey, NotNull}
-use Rattle.rules.specs.declared.Verdict.TheVariants.{Fail}
+use Rattle.std.specs.Prelude.{Err}
 use Rattle.rules.specs.Lists.{any, up_from}
 use Rattle.rules.specs.Refusals.{failing}
 use Rattle.rules.specs.Values.{nat_of, same_word, folded, same_value}
@@ -74,7 +74,7 @@ room n = record { tabs = (vacant ∷ []) ∷ []; used = []; spare = replicate n 
 
 -- "it comes between 15 and 16"
 pub checks_in_order : map (λ (n : ℕ). map (λ (b : Bool). admits (alone b) 0 0 half (room n)) (false ∷ true ∷ [])) (0 ∷ 1 ∷ [])
-    ≡ (Fail JournalFull ∷ Fail JournalFull ∷ []) ∷ (Fail NotNull ∷ Fail BrokenKey ∷ []) ∷ []
+    ≡ (Err JournalFull ∷ Err JournalFull ∷ []) ∷ (Err NotNull ∷ Err BrokenKey ∷ []) ∷ []
 unfolding admits failing not_null_broken uses_broken uses live live_state null_at nat_of row_at bit any up_from
 checks_in_order = refl
 

@@ -1,13 +1,12 @@
 -- The area: "Signed 64-bit words", and the book that they are.
 -- Assumes nothing.
-use Rattle.std.specs.Prelude.{Bool, true, false, List, [], ◌∷◌, ◌++◌, map, reverse, ℕ, suc, ◌+◌, ◌*◌, ◌/◌, ◌%◌, leb, eqb, ℤ, pos, length, get_or, take, drop, replicate}
+use Rattle.std.specs.Prelude.{Bool, true, false, List, [], ◌∷◌, ◌++◌, map, reverse, ℕ, suc, ◌+◌, ◌*◌, ◌/◌, ◌%◌, leb, eqb, ℤ, pos, length, get_or, take, drop, replicate, Err}
 use Rattle.schema.specs.Ranges.{all, every}
 use Rattle.schema.specs.Records.{Table, Schema}
 use Rattle.schema.specs.Sizes.{table_size, rows_size, area_size}
 use Rattle.rules.specs.declared.Refusal.{Refusal}
 use Rattle.rules.specs.declared.Refusal.TheVariants.{WrongLength, BadCall, Damaged}
-use Rattle.rules.specs.declared.Answer.{Answer}
-use Rattle.rules.specs.declared.Answer.TheVariants.{Refused}
+use Rattle.rules.specs.Refusals.{Answer}
 use Rattle.rules.specs.Lists.{𝟘, flat, chunks}
 use Rattle.rules.specs.Values.{nat_of, natural, same_word}
 use Rattle.rules.specs.Rows.{Tables}
@@ -106,7 +105,7 @@ on_words t = (t.0, words t.1)
 -- where the test fails, refused with nothing written
 unfoldable pub ensure : Bool → Refusal → (List ℤ → AreaTurn) → List ℤ → AreaTurn
 ensure true r k ws = k ws
-ensure false r k ws = (Refused r, ws)
+ensure false r k ws = (Err r, ws)
 
 -- "Order: .. 3, 4, 10, .."
 unfoldable pub area_step : Schema → List ℤ → List ℤ → AreaTurn

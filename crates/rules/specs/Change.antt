@@ -1,6 +1,6 @@
 -- A row change: "depth; journal room; NOT NULL; unique ..; the old words go to the journal and the row is written; then actions".
 -- Assumes nothing.
-use Rattle.std.specs.Prelude.{Bool, true, false, not, ◌&&◌, ◌||◌, List, [], ◌∷◌, ℕ, zero, suc, ◌+◌, ◌-◌, ◌^◌, eqb, ℤ, pos, length, get_or, set}
+use Rattle.std.specs.Prelude.{Bool, true, false, not, ◌&&◌, ◌||◌, List, [], ◌∷◌, ℕ, zero, suc, ◌+◌, ◌-◌, ◌^◌, eqb, ℤ, pos, length, get_or, set, Ok, Err}
 use Rattle.std.specs.Int.Signed.{le_z}
 use Rattle.schema.specs.Bytes.{bit, folds_of}
 use Rattle.schema.specs.declared.Action.{Action}
@@ -9,9 +9,7 @@ use Rattle.schema.specs.Records.{Table, Window, ForeignKey, Schema, table_of, pa
 use Rattle.rules.specs.declared.Refusal.{Refusal}
 use Rattle.rules.specs.declared.Refusal.TheVariants.{TooDeep, JournalFull, BrokenKey, NotNull, NotUnique, BadWindow, Restricted}
 use Rattle.rules.specs.Lists.{𝟘, any, except, up_from}
-use Rattle.rules.specs.Refusals.{failing}
-use Rattle.rules.specs.declared.Verdict.{Verdict}
-use Rattle.rules.specs.declared.Verdict.TheVariants.{Pass, Fail}
+use Rattle.rules.specs.Refusals.{Verdict, failing}
 use Rattle.rules.specs.Rows.{Row, row_at, image, deleted_image, live, null_at, value_at, mask_of, normal}
 use Rattle.rules.specs.Keys.{same_key, full_key, mask_columns, first_day, end_day, shares_day, serves, takes, same_parent, fires, uses_broken}
 use Rattle.rules.specs.Book.{Work, write}
@@ -75,11 +73,11 @@ admits s t r new w =
     (failing (any (uses_broken new t (row_at t r w.tabs)) s.keys) BrokenKey
     (failing (live new && not_null_broken (table_of s t) new) NotNull
     (failing (live new && unique_broken (table_of s t) r new (get_or w.tabs t [])) NotUnique
-    (failing (live new && any (bad_window t r new (get_or w.tabs t [])) s.keys) BadWindow Pass))))
+    (failing (live new && any (bad_window t r new (get_or w.tabs t [])) s.keys) BadWindow (Ok tt)))))
 
 unfoldable pub admitted : Verdict → (Work → Result) → Work → Result
-admitted Pass k w = k w
-admitted (Fail c) k w = stop c w
+admitted (Ok tt) k w = k w
+admitted (Err c) k w = stop c w
 
 -- ---- the image that an action gives a child row
 

@@ -1,19 +1,16 @@
 -- How much one delete can touch: "an accepted delete changes at most as many rows as the sum, over all live rows, of 1 plus that row's columns that are not NULL and are child columns of a key with SET NULL on delete, each column once."
 -- Assumes nothing.
-use Rattle.std.specs.Prelude.{Bool, true, false, not, ◌&&◌, List, [], ◌∷◌, ◌≢◌, ℕ, suc, ◌+◌, ◌-◌, ◌≤◌, eqb, ℤ, get_or}
+use Rattle.std.specs.Prelude.{Bool, true, false, not, ◌&&◌, List, [], ◌∷◌, ◌≢◌, ℕ, suc, ◌+◌, ◌-◌, ◌≤◌, eqb, ℤ, get_or, Ok, Err}
 use Rattle.schema.specs.declared.Action.{Action}
 use Rattle.schema.specs.declared.Action.TheVariants.{NoAction, Restrict, SetNull, SetDefault, Cascade}
 use Rattle.schema.specs.Ranges.{all}
 use Rattle.schema.specs.Records.{ForeignKey, Schema, table_of, child_key, parent_key}
 use Rattle.schema.specs.Fields.{schema_of}
 use Rattle.rules.specs.declared.Refusal.TheVariants.{JournalFull}
-use Rattle.rules.specs.declared.Verdict.TheVariants.{Pass}
-use Rattle.rules.specs.declared.Answer.{Answer}
-use Rattle.rules.specs.declared.Answer.TheVariants.{Refused}
 use Rattle.rules.specs.declared.Numbered.{Numbered}
 use Rattle.rules.specs.Lists.{𝟘, any, count, up_from}
 use Rattle.rules.specs.Values.{nat_of}
-use Rattle.rules.specs.Refusals.{shown}
+use Rattle.rules.specs.Refusals.{Answer, shown}
 use Rattle.rules.specs.Rows.{Row, Tables, live, null_at}
 use Rattle.rules.specs.Calls.{Call, delete, delete_where, parse}
 use Rattle.rules.specs.Area.{view}
@@ -90,7 +87,7 @@ free_records s ws = s.room - nat_of (get_or ws 2 𝟘)
 -- the answer to a delete, where the sum is n: it "changes at most as many rows" (refused, none), and where so many records are free it "is never refused 15"
 pub record WithinBound (n free : ℕ) (a : Answer) : Type 0 where
   pub few : (shown a).1 ≤ n
-  pub never_full : n ≤ free → a ≢ Refused JournalFull
+  pub never_full : n ≤ free → a ≢ Err JournalFull
 
 -- "Show it": of every delete, on every area, damaged ones too
 abbrev pub BoundsDeletes : List ℕ → Type 0
@@ -100,4 +97,4 @@ BoundsDeletes bs = (c ws : List ℤ) → Deletes (parse c) → WithinBound (area
 
 -- "Provide the sum as an answer, for every schema; it is refused by 1, 3 and 10 only, with the code and 0"
 unfoldable pub bound_answer : List ℕ → List ℤ → Numbered
-bound_answer bs ws = number_answer (area_verdict bs ws Pass) (area_bound (schema_of bs) ws)
+bound_answer bs ws = number_answer (area_verdict bs ws (Ok tt)) (area_bound (schema_of bs) ws)

@@ -1,6 +1,6 @@
 -- The orphan list: "Into a lent list of records (foreign key, child row) go all orphans counted from the rows, each once; records past them keep what they held." "It shall go by foreign key number, then by rising child row."
 -- Assumes nothing.
-use Rattle.std.specs.Prelude.{Bool, true, false, ◌&&◌, ◌||◌, List, [], ◌∷◌, ◌++◌, ℕ, suc, ◌+◌, ltb, eqb, ℤ, pos, length, get_or, drop}
+use Rattle.std.specs.Prelude.{Bool, true, false, ◌&&◌, ◌||◌, List, [], ◌∷◌, ◌++◌, ℕ, suc, ◌+◌, ltb, eqb, ℤ, pos, length, get_or, drop, Ok, Err}
 use Rattle.schema.specs.Ranges.{all}
 use Rattle.schema.specs.Records.{ForeignKey, Schema, key_of}
 use Rattle.schema.specs.Fields.{schema_of}
@@ -8,9 +8,7 @@ use Rattle.rules.specs.declared.Refusal.TheVariants.{ListTooShort}
 use Rattle.rules.specs.declared.Orphan.{Orphan}
 use Rattle.rules.specs.declared.Listed.{Listed}
 use Rattle.rules.specs.Lists.{𝟘}
-use Rattle.rules.specs.Refusals.{failing, number}
-use Rattle.rules.specs.declared.Verdict.{Verdict}
-use Rattle.rules.specs.declared.Verdict.TheVariants.{Pass, Fail}
+use Rattle.rules.specs.Refusals.{Verdict, failing, number}
 use Rattle.rules.specs.Rows.{Row, Tables, row_at}
 use Rattle.rules.specs.Keys.{orphan, orphans}
 use Rattle.rules.specs.Area.{view}
@@ -44,12 +42,12 @@ orphan_total (k ∷ ks) tabs = orphans tabs k + orphan_total ks tabs
 unfoldable pub list_verdict : List ℕ → List ℤ → ℕ → Verdict
 list_verdict bs ws room =
     let s : Schema = schema_of bs in
-    area_verdict bs ws (failing (ltb room (orphan_total s.keys (view s ws).work.tabs)) ListTooShort Pass)
+    area_verdict bs ws (failing (ltb room (orphan_total s.keys (view s ws).work.tabs)) ListTooShort (Ok tt))
 
 -- "The answer is code 0 and their number; refused, the code and 0."
 unfoldable pub listed : Verdict → ℕ → Listed
-listed Pass n = record { code = 𝟘; count = n }
-listed (Fail r) n = record { code = pos (number r); count = 0 }
+listed (Ok tt) n = record { code = 𝟘; count = n }
+listed (Err r) n = record { code = pos (number r); count = 0 }
 
 -- the answer, where the lent list has `room` records
 unfoldable pub list_answer : List ℕ → List ℤ → ℕ → Listed
@@ -57,8 +55,8 @@ list_answer bs ws room = listed (list_verdict bs ws room) (orphan_total (schema_
 
 -- the lent list at exit, where it held `before`: the orphans, then what stood past them; refused, what it was
 unfoldable pub lent_after : Verdict → List Orphan → List Orphan → List Orphan
-lent_after Pass os before = os ++ drop (length os) before
-lent_after (Fail r) os before = before
+lent_after (Ok tt) os before = os ++ drop (length os) before
+lent_after (Err r) os before = before
 
 -- the orphan list: the answer, and the lent list at exit
 unfoldable pub list_orphans : List ℕ → List ℤ → List Orphan → Listed × List Orphan

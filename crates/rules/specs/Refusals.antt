@@ -1,13 +1,22 @@
 -- The answer: "code (0 or a refusal), rows changed, and the net change in all kept orphans".
 -- Assumes nothing.
-use Rattle.std.specs.Prelude.{Bool, true, false, ℕ, ℤ}
+use Rattle.std.specs.Prelude.{Bool, true, false, ℕ, ℤ, Result, Ok, Err}
 use Rattle.rules.specs.Lists.{𝟘}
 use Rattle.rules.specs.declared.Refusal.{Refusal}
 use Rattle.rules.specs.declared.Refusal.TheVariants.{SchemaMalformed, WrongLength, BadCall, Damaged, RowState, LevelState, LevelsFull, TooDeep, JournalFull, NotNull, NotUnique, Restricted, KeptOutOfRange, OrphansLeft, CommitWithOrphans, ListTooShort, BrokenKey, BadWindow}
-use Rattle.rules.specs.declared.Verdict.{Verdict}
-use Rattle.rules.specs.declared.Verdict.TheVariants.{Fail}
-use Rattle.rules.specs.declared.Answer.{Answer}
-use Rattle.rules.specs.declared.Answer.TheVariants.{Done, Refused}
+use Rattle.rules.specs.declared.Done.{Done}
+
+-- whether checks pass, or which one refuses
+abbrev pub Verdict : Type 0
+Verdict = Result (Unit {0}) Refusal
+
+-- the answer to a call
+abbrev pub Answer : Type 0
+Answer = Result Done Refusal
+
+-- accepted: rows changed, and net change in all kept orphans
+abbrev pub did : ℕ → ℤ → Answer
+did changed net = Ok (record { changed = changed; net = net })
 
 -- the paper's number of a refusal
 unfoldable pub number : Refusal → ℕ
@@ -32,14 +41,14 @@ number BadWindow = 24
 
 -- code, rows changed, net. "Refused: code, 0, 0."
 unfoldable pub shown : Answer → ℕ × ℕ × ℤ
-shown (Done changed net) = (0, changed, net)
-shown (Refused r) = (number r, 0, 𝟘)
+shown (Ok d) = (0, d.changed, d.net)
+shown (Err r) = (number r, 0, 𝟘)
 
 unfoldable pub accepted : Answer → Bool
-accepted (Done changed net) = true
-accepted (Refused r) = false
+accepted (Ok d) = true
+accepted (Err r) = false
 
 -- checks in an order: the first that fails refuses
 unfoldable pub failing : Bool → Refusal → Verdict → Verdict
-failing true c v = Fail c
+failing true c v = Err c
 failing false c v = v

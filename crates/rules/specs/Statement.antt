@@ -1,11 +1,10 @@
 -- A statement: row changes, and what is settled at its end.
 -- Assumes nothing.
-use Rattle.std.specs.Prelude.{Bool, true, false, ◌&&◌, ◌||◌, List, [], ◌∷◌, ℕ, ◌-◌, ℤ, length}
+use Rattle.std.specs.Prelude.{Bool, true, false, ◌&&◌, ◌||◌, List, [], ◌∷◌, ℕ, ◌-◌, ℤ, length, Err}
 use Rattle.schema.specs.Records.{ForeignKey, Schema}
 use Rattle.rules.specs.declared.Refusal.{Refusal}
 use Rattle.rules.specs.declared.Refusal.TheVariants.{RowState, KeptOutOfRange, OrphansLeft}
-use Rattle.rules.specs.declared.Answer.{Answer}
-use Rattle.rules.specs.declared.Answer.TheVariants.{Done, Refused}
+use Rattle.rules.specs.Refusals.{Answer, did}
 use Rattle.rules.specs.Lists.{𝟘, sum, less, plus}
 use Rattle.rules.specs.Values.{same_word, all_zero}
 use Rattle.rules.specs.Rows.{Row}
@@ -21,12 +20,12 @@ Turn = Answer × Book
 -- where the test fails, refused: "nothing written"
 unfoldable pub check : Bool → Refusal → (Book → Turn) → Book → Turn
 check true r k b = k b
-check false r k b = (Refused r, b)
+check false r k b = (Err r, b)
 
 -- where the test fails, refused "inside a statement"
 unfoldable pub demand : Bool → Refusal → (Book → Turn) → Book → Turn
 demand true r k b = k b
-demand false r k b = (Refused r, cleared b)
+demand false r k b = (Err r, cleared b)
 
 -- every kept number of an immediate key is 0
 unfoldable pub immediate_zero : List ForeignKey → List ℤ → Bool
@@ -54,11 +53,11 @@ settle s w movement b =
     let kept : List ℤ = plus b.kept movement in
     demand (kept_in_range s s.keys kept) KeptOutOfRange
     (demand (enforced (in_transaction b.levels) s kept) OrphansLeft
-    (λ b. (Done (length w.used - length b.work.used) (sum movement), after_statement w kept b)))
+    (λ b. (did (length w.used - length b.work.used) (sum movement), after_statement w kept b)))
     b
 
 unfoldable pub conclude : Schema → Result → Book → Turn
-conclude s (stop c w) b = (Refused c, cleared b)
+conclude s (stop c w) b = (Err c, cleared b)
 conclude s (go w) b = settle s w (less (counts s w.tabs) (counts s b.work.tabs)) b
 
 -- a statement runs its row changes, then settles

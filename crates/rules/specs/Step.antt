@@ -1,10 +1,9 @@
 -- One call on a book, and a list of calls.
 -- Assumes nothing.
-use Rattle.std.specs.Prelude.{Bool, true, false, not, List, [], ◌∷◌, ℕ, suc, ◌-◌, eqb, ℤ, length}
+use Rattle.std.specs.Prelude.{Bool, true, false, not, List, [], ◌∷◌, ℕ, suc, ◌-◌, eqb, ℤ, length, Err}
 use Rattle.schema.specs.Records.{Schema, table_of}
 use Rattle.rules.specs.declared.Refusal.TheVariants.{BadCall, Damaged, LevelState, LevelsFull, CommitWithOrphans}
-use Rattle.rules.specs.declared.Answer.{Answer}
-use Rattle.rules.specs.declared.Answer.TheVariants.{Done, Refused}
+use Rattle.rules.specs.Refusals.{Answer, did}
 use Rattle.rules.specs.Lists.{𝟘, sum, less}
 use Rattle.rules.specs.Values.{all_zero}
 use Rattle.rules.specs.Rows.{row_at, live, live_image, deleted_image}
@@ -16,8 +15,8 @@ use Rattle.rules.specs.Statement.{Turn, check, statement, row_statement}
 
 -- the next level opens: "13: savepoint with nine levels open"
 unfoldable pub opened : ℕ → List (List ℤ) → Book → Turn
-opened opener [] b = (Refused LevelsFull, b)
-opened opener (x ∷ rest) b = (Done 0 𝟘, push opener rest b)
+opened opener [] b = (Err LevelsFull, b)
+opened opener (x ∷ rest) b = (did 0 𝟘, push opener rest b)
 
 -- who opened the transaction: 2 where a savepoint opens it
 unfoldable pub opener_of : Bool → ℕ → ℕ
@@ -26,20 +25,20 @@ opener_of false n = 2
 
 -- "21: commit with a kept number not zero; all levels stay open"
 unfoldable pub committed : Book → Turn
-committed b = check (all_zero b.kept) CommitWithOrphans (λ b. (Done 0 𝟘, ended b.kept b.work b)) b
+committed b = check (all_zero b.kept) CommitWithOrphans (λ b. (did 0 𝟘, ended b.kept b.work b)) b
 
 -- "Releasing level 1 opened by savepoint is a commit."
 unfoldable pub released : Bool → ℕ → Book → Turn
 released true n b = committed b
-released false n b = (Done 0 𝟘, close n b)
+released false n b = (did 0 𝟘, close n b)
 
 -- a rollback from b to b': rows changed counts journal records undone
 unfoldable pub rolled : Book → Book → Turn
-rolled b' b = (Done (length b.work.used - length b'.work.used) (sum (less b'.kept b.kept)), b')
+rolled b' b = (did (length b.work.used - length b'.work.used) (sum (less b'.kept b.kept)), b')
 
 -- the call, by kind. Kinds 10 and 11 are one statement each: "Immediate keys are judged once, after the last row."
 unfoldable pub act : Schema → Call → Book → Turn
-act s malformed b = (Refused BadCall, b)
+act s malformed b = (Err BadCall, b)
 act s (insert t r m vs) b = row_statement s (not (live (row_at t r b.work.tabs))) t r (live_image (table_of s t).columns m vs) b
 act s (update t r m vs) b = row_statement s (live (row_at t r b.work.tabs)) t r (live_image (table_of s t).columns m vs) b
 act s (delete t r) b = row_statement s (live (row_at t r b.work.tabs)) t r deleted_image b

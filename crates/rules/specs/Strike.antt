@@ -1,13 +1,11 @@
 -- Striking out: which calls are left when the refused ones, and rollbacks with what they undid, are struck out.
 -- Assumes nothing.
-use Rattle.std.specs.Prelude.{◌≡◌, ◌⊎◌, List, [], ◌∷◌, ◌++◌, map, ℕ, suc, pred, ◌-◌, ◌<◌, ℤ, pos, length, get_or, take, drop, replicate}
+use Rattle.std.specs.Prelude.{◌≡◌, ◌⊎◌, List, [], ◌∷◌, ◌++◌, map, ℕ, suc, pred, ◌-◌, ◌<◌, ℤ, pos, length, get_or, take, drop, replicate, Ok, Err}
 use Rattle.schema.specs.Records.{Schema}
 use Rattle.schema.specs.Fields.{schema_of}
-use Rattle.rules.specs.declared.Answer.{Answer}
-use Rattle.rules.specs.declared.Answer.TheVariants.{Done, Refused}
 use Rattle.rules.specs.Lists.{𝟘}
 use Rattle.rules.specs.Values.{all_zero}
-use Rattle.rules.specs.Refusals.{accepted}
+use Rattle.rules.specs.Refusals.{Answer, accepted}
 use Rattle.rules.specs.Keys.{counts}
 use Rattle.rules.specs.Calls.{Call, malformed, insert, update, delete, begin, savepoint, release, rollback_to, rollback, commit, delete_where, update_where, parse}
 use Rattle.rules.specs.Step.{Logged}
@@ -41,8 +39,8 @@ place (update_where t c m v d y) x k = record { line = joined x k.line; pile = k
 
 -- "Refused, of any kind: nothing alters."
 unfoldable pub mark : Call → List ℤ → Answer → Struck → Struck
-mark c ws (Refused r) k = k
-mark c ws (Done n d) k = place c (ws, Done n d) k
+mark c ws (Err r) k = k
+mark c ws (Ok d) k = place c (ws, Ok d) k
 
 unfoldable pub marks : List Logged → Struck → Struck
 marks [] k = k

@@ -11,11 +11,10 @@ use lib.IntN.{ℤ}
 use lib.ListN.{length, drop, get_or, length-map}
 use Rattle.schema.specs.Ranges.{all}
 use Rattle.schema.specs.Fields.{schema_of}
-use Rattle.schema.specs.Check.{check_schema}
-use Rattle.schema.specs.declared.SchemaAnswer.TheVariants.{Accepted}
+use Rattle.schema.specs.Check.{check_schema, Accepted}
 use Rattle.schema.proofs.RangeLaws.{and_left}
-use Rattle.rules.specs.declared.Answer.{Answer}
-use Rattle.rules.specs.declared.Answer.TheVariants.{Done, Refused}
+use Rattle.rules.specs.Refusals.{Answer}
+use Rattle.std.specs.Prelude.{Ok, Err}
 use Rattle.rules.specs.Lists.{𝟘, flat, chunks}
 use Rattle.rules.specs.Values.{nat_of, natural}
 use Rattle.rules.specs.Calls.{Call, malformed, insert, update, delete, begin, savepoint, release, rollback_to, rollback, commit, delete_where, update_where, formed_if, parsed, parse}
@@ -51,11 +50,11 @@ place_twelve (update_where a c m v d y) x k t h = all_append twelve_words k.line
 -- only calls of twelve words come into the line
 mark_twelve : (ws : List ℤ) (a : Answer) (k : Struck) → all twelve_words k.line ≡ true → all twelve_words (mark (parse ws) ws a k).line ≡ true
 unfolding mark parse formed_if place twelve_words
-mark_twelve ws (Refused r) k h = h
-mark_twelve ws (Done n d) k h = by (eqb (length ws) 12 && natural (get_or ws 0 𝟘)) refl
+mark_twelve ws (Err r) k h = h
+mark_twelve ws (Ok d) k h = by (eqb (length ws) 12 && natural (get_or ws 0 𝟘)) refl
   where
-    by : (t : Bool) → eqb (length ws) 12 && natural (get_or ws 0 𝟘) ≡ t → all twelve_words (place (formed_if t (parsed (nat_of (get_or ws 0 𝟘)) ws)) (ws, Done n d) k).line ≡ true
-    by true e = place_twelve (parsed (nat_of (get_or ws 0 𝟘)) ws) (ws, Done n d) k (and_left (eqb (length ws) 12) (natural (get_or ws 0 𝟘)) e) h
+    by : (t : Bool) → eqb (length ws) 12 && natural (get_or ws 0 𝟘) ≡ t → all twelve_words (place (formed_if t (parsed (nat_of (get_or ws 0 𝟘)) ws)) (ws, Ok d) k).line ≡ true
+    by true e = place_twelve (parsed (nat_of (get_or ws 0 𝟘)) ws) (ws, Ok d) k (and_left (eqb (length ws) 12) (natural (get_or ws 0 𝟘)) e) h
     by false e = h
 
 marks_twelve : (log : List Logged) (k : Struck) → all twelve_words k.line ≡ true → all twelve_words (marks log k).line ≡ true

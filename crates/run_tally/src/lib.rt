@@ -3,58 +3,28 @@
 #![tactic(auto)]
 
 ghost use Rattle.std.specs.Prelude.{◌≡◌};
-ghost use Rattle.run_tally.specs.Tallies.{capped, tallied};
 
-#[derive(Clone, Copy)]
+#[derive(Clone, Copy, Default)]
 pub struct Tally {
     pub accepted: u64,
     pub refused: u64,
     pub rows: u64,
 }
 
-// The sum, or the largest number where the sum would pass it.
-#[tactic(auto, unfolding(crate::specs::Tallies::capped))]
-pub fn add_capped(a: u64, b: u64) -> u64
-    ensures { result ≡ capped a b }
-{
-    if u64::MAX - a < b {
-        return u64::MAX;
-    }
-    a + b
-}
+impl Tally {
+    ghost use Rattle.run_tally.specs.Tallies.{tallied};
 
-// The tally with one answer more.
-#[tactic(auto, unfolding(crate::specs::Tallies::tallied))]
-pub fn tally_with(tally: Tally, code: u64, changed: u64) -> Tally
-    ensures { result ≡ tallied tally code changed }
-{
-    if code == 0 {
-        Tally {
-            accepted: add_capped(tally.accepted, 1),
-            refused: tally.refused,
-            rows: add_capped(tally.rows, changed),
+    // Counts one answer: by its code, 0 where the call is accepted, and by the rows changed. A number that would pass the largest
+    // stays at it. The code is a number, as the line of the answer has it: `tallied` speaks of any.
+    #[tactic(auto, unfolding(crate::specs::Tallies::capped, crate::specs::Tallies::tallied))]
+    pub fn count(&mut self, code: u64, changed: u64)
+        ensures { self.new ≡ tallied self.old code changed }
+    {
+        if code == 0 {
+            self.accepted = self.accepted.saturating_add(1);
+        } else {
+            self.refused = self.refused.saturating_add(1);
         }
-    } else {
-        Tally {
-            accepted: tally.accepted,
-            refused: add_capped(tally.refused, 1),
-            rows: add_capped(tally.rows, changed),
-        }
+        self.rows = self.rows.saturating_add(changed);
     }
-}
-
-// Counts one answer in the lent tally.
-pub fn count(tally: &mut Tally, code: u64, changed: u64)
-    ensures { tally.new ≡ tallied tally.old code changed }
-{
-    *tally = tally_with(*tally, code, changed);
-}
-
-// The tally with one answer more, by `count`: for callers that hold it by value.
-pub fn counted(tally: Tally, code: u64, changed: u64) -> Tally
-    ensures { result ≡ tallied tally code changed }
-{
-    let mut next = tally;
-    count(&mut next, code, changed);
-    next
 }

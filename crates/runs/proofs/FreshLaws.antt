@@ -1,15 +1,15 @@
 -- A fresh area is one that calls lead to.
 -- Assumes nothing.
+use Rattle.std.specs.Prelude.{Ok, Err}
 use mathlib.Core.Path.{◌≡◌, refl, sym, ap, ap₂, subst, ◌∙◌}
 use mathlib.Core.Bool.{true}
 use mathlib.Core.List.{List, [], ◌∷◌}
 use Prim.Native.Nat.{ℕ}
 use lib.IntN.{ℤ}
 use lib.ListN.{length, replicate}
-use Rattle.schema.specs.declared.SchemaAnswer.{SchemaAnswer}
-use Rattle.schema.specs.declared.SchemaAnswer.TheVariants.{Accepted, Malformed}
+use Rattle.schema.specs.Check.{SchemaAnswer, Accepted, check_schema}
+use Rattle.schema.specs.declared.SchemaError.TheVariants.{Malformed}
 use Rattle.schema.specs.Fields.{schema_of}
-use Rattle.schema.specs.Check.{check_schema}
 use Rattle.rules.specs.Lists.{𝟘}
 use Rattle.rules.specs.Values.{all_zero, same_word}
 use Rattle.rules.specs.Area.{fresh_words}
@@ -31,7 +31,7 @@ unfolding fresh_words
 blank_reached bs ws some size zero = by (check_schema bs) refl
   where
     by : (k : SchemaAnswer) → check_schema bs ≡ k → Reached bs ws
-    by Malformed e = absurd (some (sym (words_malformed bs e)))
-    by Accepted e =
+    by (Err Malformed) e = absurd (some (sym (words_malformed bs e)))
+    by (Ok tt) e =
         let fresh : ws ≡ fresh_words (schema_of bs) = all_zeros ws zero ∙ ap (λ n. replicate n 𝟘) (size ∙ sym (words_accepted bs e refl)) in
         subst (Reached bs) (sym fresh) (reached_fresh bs e)

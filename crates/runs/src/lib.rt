@@ -78,10 +78,8 @@ pub fn run(schema: &[u8], area: &mut [i64], calls: &[i64], answers: &mut [i64]) 
 {
     let n = calls_run(calls.len(), answers.len());
     let reached = is_fresh(schema, area);
-    let mut i = 0;
-    while i < n {
+    for i in 0..n {
         run_call(schema, area, calls, answers, i, reached);
-        i += 1;
     }
     n
 }

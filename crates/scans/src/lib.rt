@@ -2,145 +2,77 @@
 
 #![tactic(auto)]
 
-ghost use Rattle.std.specs.Prelude.{◌≡◌, suc, ◌+◌, ◌*◌, ◌≤◌, ◌<◌};
+ghost use Rattle.std.specs.Prelude.{◌≡◌, ◌≤◌, ◌<◌};
 ghost use Rattle.rules.specs.Lists;
 ghost use Rattle.rules.specs.Lists.{except};
-ghost use Rattle.bridge.specs.Ready.{row_in};
-ghost use Rattle.rows.specs.Standing.{RowAt, Standing, rows_in};
-ghost use Rattle.rows.specs.Sought.{has_value, has_sought, SoughtIn};
-ghost use Rattle.skips.specs.Skipped.{first_words, masked_pair};
+ghost use Rattle.rows.specs.Standing.{Standing, rows_in};
+ghost use Rattle.rows.specs.Sought.{has_sought, SoughtIn};
+ghost use Rattle.skips.specs.Skipped.{both};
 ghost use Rattle.scans.specs.Parts.{rows_before, rows_after};
-ghost use Rattle.scans.specs.FirstFrom.{FirstRow};
+ghost use Rattle.scans.specs.FirstFrom.{FirstIs};
 
 use rows::{SoughtKey, TableRows};
-use skips::{MaskedPair, TwoWords};
+use skips::{RowTest, Value};
 
 // ---- all rows
 
-// The first row from `from` on that is live and has the value v, not folded, in column c; the number of rows where there is none.
-fn first_with_value(area: &[i64], table: TableRows, c: usize, v: i64, from: usize) -> usize
-    requires { (Standing area.now table × (from ≤ table.count)) × (suc c < table.width) }
-    ensures { FirstRow (has_value c v) area.now table from result }
+// The first row from `from` on that passes two tests. Rows that fail the one that is looked at first are passed over four at a time.
+pub fn first<L: RowTest, T: RowTest>(
+    area: &[i64],
+    table: TableRows,
+    look: &L,
+    test: &T,
+    from: usize,
+) -> Option<usize>
+    requires { (Standing area.now table × (from ≤ table.count)) × (L.fits look.now table.width × T.fits test.now table.width) }
+    ensures { FirstIs (both (L.accepts look.now) (T.accepts test.now)) area.now table from result }
 {
-    let start = table.start;
-    let w = table.width;
-    let rows = table.count;
-    let mut i = skips::skip_column(area, table, c + 1, v, from);
-    while i < rows {
-        if rows::has_value(area, start + i * w, w, c, v) {
-            return i;
+    // A loop by hand: the row jumps to where the rows passed over end.
+    let mut j = skips::skip(area, table, look, from);
+    while j < table.count {
+        let p = table.start + j * table.width;
+        if look.passes(area, p, table.width) && test.passes(area, p, table.width) {
+            return Some(j);
         }
-        i = skips::skip_column(area, table, c + 1, v, i + 1);
+        j = skips::skip(area, table, look, j + 1);
     }
-    rows
+    None
 }
 
-// Whether the row at p is live and has a sought key of two columns or more; most that have not are told by those two.
-fn has_composite(area: &[i64], p: usize, w: usize, pair: TwoWords, key: SoughtKey) -> bool
-    requires { (RowAt area.now p w × SoughtIn w key) × (((2 ≤ key.n) × (key.folded ≡ 0)) × (pair ≡ first_words key)) }
-    ensures { result ≡ has_sought key (row_in area.now p w) }
+// The first row from `from` on that is live and has a sought key with no folded column.
+fn first_with_plain(area: &[i64], table: TableRows, key: &SoughtKey, from: usize) -> Option<usize>
+    requires { (Standing area.now table × (from ≤ table.count)) × (((1 ≤ key.now.n) × (key.now.folded ≡ 0)) × SoughtIn table.width key.now) }
+    ensures { FirstIs (has_sought key.now) area.now table from result }
 {
-    if !skips::is_alike(area, p, w, pair) {
-        return false;
+    if key.n == 1 {
+        let word = skips::word_of(key, 0);
+        let value = Value {
+            column: key.cs[0],
+            value: key.vs[0],
+        };
+        return first(area, table, &word, &value, from);
     }
-    rows::has_key(area, p, w, key)
-}
-
-// The same as `first_with_key`, for a key of two columns or more, none of them folded.
-fn first_with_composite(area: &[i64], table: TableRows, key: SoughtKey, from: usize) -> usize
-    requires { (Standing area.now table × (from ≤ table.count)) × (((2 ≤ key.n) × (key.folded ≡ 0)) × SoughtIn table.width key) }
-    ensures { FirstRow (has_sought key) area.now table from result }
-{
-    let start = table.start;
-    let w = table.width;
-    let rows = table.count;
     let pair = skips::first_words(key);
-    let mut j = skips::skip_rows(area, table, pair, from);
-    while j < rows {
-        if has_composite(area, start + j * w, w, pair, key) {
-            return j;
-        }
-        j = skips::skip_rows(area, table, pair, j + 1);
-    }
-    rows
+    first(area, table, &pair, key, from)
 }
 
-// The same as `first_with_key`, for a key with no folded column.
-fn first_with_plain(area: &[i64], table: TableRows, key: SoughtKey, from: usize) -> usize
-    requires { (Standing area.now table × (from ≤ table.count)) × (((1 ≤ key.n) × (key.folded ≡ 0)) × SoughtIn table.width key) }
-    ensures { FirstRow (has_sought key) area.now table from result }
+// The first row from `from` on that is live and has a sought key with folded columns.
+fn first_with_folded(area: &[i64], table: TableRows, key: &SoughtKey, from: usize) -> Option<usize>
+    requires { (Standing area.now table × (from ≤ table.count)) × ((1 ≤ key.now.n) × SoughtIn table.width key.now) }
+    ensures { FirstIs (has_sought key.now) area.now table from result }
 {
     if key.n == 1 {
-        return first_with_value(area, table, key.cs[0], key.vs[0], from);
+        let word = skips::masked_word(key, 0);
+        return first(area, table, &word, key, from);
     }
-    first_with_composite(area, table, key, from)
+    let near = skips::masked_pair(key);
+    first(area, table, &near, key, from)
 }
 
-// The same as `first_with_key`, for a key of one column, which is folded.
-fn first_folded_value(area: &[i64], table: TableRows, key: SoughtKey, from: usize) -> usize
-    requires { (Standing area.now table × (from ≤ table.count)) × ((key.n ≡ 1) × SoughtIn table.width key) }
-    ensures { FirstRow (has_sought key) area.now table from result }
-{
-    let start = table.start;
-    let w = table.width;
-    let rows = table.count;
-    let word = skips::masked_word(key, 0);
-    let mut k = skips::skip_masked(area, table, word, from);
-    while k < rows {
-        if rows::has_key(area, start + k * w, w, key) {
-            return k;
-        }
-        k = skips::skip_masked(area, table, word, k + 1);
-    }
-    rows
-}
-
-// Whether the row at p is live and has a sought key of two columns or more, some of them folded; most that have not are told by
-// the bits that those two are looked at by first.
-fn has_folded(area: &[i64], p: usize, w: usize, pair: MaskedPair, key: SoughtKey) -> bool
-    requires { (RowAt area.now p w × SoughtIn w key) × ((2 ≤ key.n) × (pair ≡ masked_pair key)) }
-    ensures { result ≡ has_sought key (row_in area.now p w) }
-{
-    if !skips::is_near(area, p, w, pair) {
-        return false;
-    }
-    rows::has_key(area, p, w, key)
-}
-
-// The same as `first_with_key`, for a key of two columns or more, some of them folded.
-fn first_folded_composite(area: &[i64], table: TableRows, key: SoughtKey, from: usize) -> usize
-    requires { (Standing area.now table × (from ≤ table.count)) × ((2 ≤ key.n) × SoughtIn table.width key) }
-    ensures { FirstRow (has_sought key) area.now table from result }
-{
-    let start = table.start;
-    let w = table.width;
-    let rows = table.count;
-    let pair = skips::masked_pair(key);
-    let mut r = skips::skip_far(area, table, pair, from);
-    while r < rows {
-        if has_folded(area, start + r * w, w, pair, key) {
-            return r;
-        }
-        r = skips::skip_far(area, table, pair, r + 1);
-    }
-    rows
-}
-
-// The same as `first_with_key`, for a key with folded columns.
-fn first_with_folded(area: &[i64], table: TableRows, key: SoughtKey, from: usize) -> usize
-    requires { (Standing area.now table × (from ≤ table.count)) × ((1 ≤ key.n) × SoughtIn table.width key) }
-    ensures { FirstRow (has_sought key) area.now table from result }
-{
-    if key.n == 1 {
-        return first_folded_value(area, table, key, from);
-    }
-    first_folded_composite(area, table, key, from)
-}
-
-// The first row from `from` on that is live and has a sought key; the number of rows where there is none.
-pub fn first_with_key(area: &[i64], table: TableRows, key: SoughtKey, from: usize) -> usize
-    requires { (Standing area.now table × (from ≤ table.count)) × ((1 ≤ key.n) × SoughtIn table.width key) }
-    ensures { FirstRow (has_sought key) area.now table from result }
+// The first row from `from` on that is live and has a sought key.
+pub fn first_with_key(area: &[i64], table: TableRows, key: &SoughtKey, from: usize) -> Option<usize>
+    requires { (Standing area.now table × (from ≤ table.count)) × ((1 ≤ key.now.n) × SoughtIn table.width key.now) }
+    ensures { FirstIs (has_sought key.now) area.now table from result }
 {
     if key.folded == 0 {
         return first_with_plain(area, table, key, from);
@@ -153,8 +85,7 @@ pub fn any_with_key(area: &[i64], table: TableRows, key: SoughtKey) -> bool
     requires { Standing area.now table × ((1 ≤ key.n) × SoughtIn table.width key) }
     ensures { result ≡ Lists.any (has_sought key) (rows_in area.now table) }
 {
-    let j = first_with_key(area, table, key, 0);
-    j < table.count
+    first_with_key(area, table, &key, 0).is_some()
 }
 
 // How many of the rows are live and have a sought key.
@@ -162,12 +93,12 @@ pub fn count_with_key(area: &[i64], table: TableRows, key: SoughtKey) -> usize
     requires { Standing area.now table × ((1 ≤ key.n) × SoughtIn table.width key) }
     ensures { (result ≡ Lists.count (has_sought key) (rows_in area.now table)) × (result ≤ table.count) }
 {
-    let rows = table.count;
+    // A loop by hand: the search goes on from the row after the one found.
     let mut m = 0;
-    let mut j = first_with_key(area, table, key, 0);
-    while j < rows {
+    let mut from = 0;
+    while let Some(j) = first_with_key(area, table, &key, from) {
         m += 1;
-        j = first_with_key(area, table, key, j + 1);
+        from = j + 1;
     }
     m
 }
@@ -178,11 +109,7 @@ pub fn count_with_key(area: &[i64], table: TableRows, key: SoughtKey) -> usize
 pub fn rows_before(table: TableRows, r: usize) -> TableRows
     ensures { result ≡ rows_before table r }
 {
-    TableRows {
-        start: table.start,
-        width: table.width,
-        count: r,
-    }
+    TableRows { count: r, ..table }
 }
 
 // The rows of a table above row r.
@@ -190,13 +117,10 @@ pub fn rows_after(area: &[i64], table: TableRows, r: usize) -> TableRows
     requires { Standing area.now table × (r < table.count) }
     ensures { result ≡ rows_after table r }
 {
-    let start = table.start;
-    let w = table.width;
-    let rows = table.count;
     TableRows {
-        start: start + (r + 1) * w,
-        width: w,
-        count: rows - (r + 1),
+        start: table.start + (r + 1) * table.width,
+        count: table.count - (r + 1),
+        ..table
     }
 }
 

@@ -1,19 +1,65 @@
 -- Laws of the check, as the functions that make it use them. Assumes nothing.
-use mathlib.Core.Path.{◌≡◌, sym}
+use Rattle.std.specs.Prelude.{Err}
+use mathlib.Core.Path.{◌≡◌, refl, sym, ap, ap₂, ◌∙◌}
 use mathlib.Core.Bool.{Bool, true, false, ◌&&◌}
-use mathlib.Core.List.{List}
-use Prim.Native.Nat.{ℕ, ◌<◌, ◌≤◌}
-use borrow.Author.Tests.{le-leb, lt-leb, le-ltb, eq-eqb, ne_eqb}
-use lib.Dec.{leb, ltb}
-use lib.ListN.{length}
-use Rattle.schema.specs.declared.SchemaAnswer.TheVariants.{Accepted, Malformed}
+use mathlib.Core.List.{List, [], ◌∷◌}
+use Prim.Native.Nat.{ℕ, zero, suc, ◌<◌, ◌≤◌}
+use native.Mathlib.Omega.{arith}
+use borrow.Author.Tests.{leb-true, leb-false, eqb-true, eqb-false, le-leb, lt-leb, le-ltb, eq-eqb, ne_eqb}
+use lib.Dec.{leb, ltb, eqb}
+use lib.ListN.{length, take}
+use Rattle.std.specs.Cmp.Lexicographic.{pointwise}
+use Rattle.schema.specs.Check.{Accepted}
+use Rattle.schema.specs.declared.SchemaError.TheVariants.{Malformed}
 use Rattle.schema.specs.Ranges.{all_from}
 use Rattle.schema.specs.Fields
 use Rattle.schema.specs.Check
 
-pub starts_is : (start bs : List ℕ) {b : Bool} → length start ≤ length bs → all_from (Check.same_at bs start) (length start) 0 ≡ b → b ≡ Check.starts_with start bs
+-- what `a && b` answers: b where a holds, else a
+pub both_asked : {v a b x y : Bool} → v ≡ b → a ≡ true → a ≡ x → b ≡ y → v ≡ x && y
+both_asked {y} p q r s = p ∙ s ∙ ap (λ (t : Bool). t && y) (sym q ∙ r)
+
+pub first_asked : {v a x : Bool} (y : Bool) → v ≡ a → a ≡ false → a ≡ x → v ≡ x && y
+first_asked y p q r = p ∙ q ∙ ap (λ (t : Bool). t && y) (sym q ∙ r)
+
+same_turned : (a b : ℕ) → eqb a b ≡ eqb b a
+same_turned a b = go (eqb b a) refl
+  where
+    go : (t : Bool) → eqb b a ≡ t → eqb a b ≡ t
+    go true e = eq-eqb a b (sym (eqb-true b a e))
+    go false e = ne_eqb a b (λ q. eqb-false b a e (sym q))
+
+both_more : (a b : ℕ) → leb a b ≡ leb (suc a) (suc b)
+both_more a b = go (leb (suc a) (suc b)) refl
+  where
+    go : (t : Bool) → leb (suc a) (suc b) ≡ t → leb a b ≡ t
+    go true e = le-leb a b (omega (arith, leb-true (suc a) (suc b) e))
+    go false e = lt-leb a b (omega (arith, leb-false (suc a) (suc b) e))
+
+and_swap : (a b c : Bool) → a && (b && c) ≡ b && (a && c)
+and_swap true b c = refl
+and_swap false true c = refl
+and_swap false false c = refl
+
+-- n numbers from the one behind j on, and n from j on of the numbers behind
+all_behind : (p : ℕ → Bool) (n j : ℕ) → all_from (λ i. p (suc i)) n j ≡ all_from p n (suc j)
+unfolding all_from
+all_behind p zero j = refl
+all_behind p (suc n) j = ap (λ (b : Bool). p (suc j) && b) (all_behind p n (suc j))
+
+-- a start compared as lists are
+prefix_is : (start bs : List ℕ) → pointwise eqb start (take (length start) bs) ≡ leb (length start) (length bs) && all_from (Check.same_at bs start) (length start) 0
+unfolding all_from
+prefix_is [] bs = rw (le-leb 0 (length bs) (omega arith))
+prefix_is (x ∷ start) [] = rw (lt-leb (suc (length start)) 0 (omega arith))
+prefix_is (x ∷ start) (y ∷ bs) =
+    ap₂ ◌&&◌ (same_turned x y) (prefix_is start bs)
+    ∙ and_swap (eqb y x) (leb (length start) (length bs)) (all_from (Check.same_at bs start) (length start) 0)
+    ∙ ap₂ (λ (a b : Bool). a && (eqb y x && b)) (both_more (length start) (length bs)) (all_behind (Check.same_at (y ∷ bs) (x ∷ start)) (length start) 0)
+
+pub starts_is : (start bs : List ℕ) → pointwise eqb start (take (length start) bs) ≡ Check.starts_with start bs
 unfolding Check.starts_with
-starts_is start bs h e = rw (le-leb (length start) (length bs) h) (sym e)
+starts_is = prefix_is
 
 module _ (bs : List ℕ) where
   pub header_short : length bs < 16 → false ≡ Check.header_rules bs
@@ -61,7 +107,7 @@ module _ (bs : List ℕ) where
   unfolding Check.well_formed
   well_rest e = rw e
 
-  pub answer_1 : Check.well_formed bs ≡ false → Malformed ≡ Check.check_schema bs
+  pub answer_1 : Check.well_formed bs ≡ false → (Err Malformed) ≡ Check.check_schema bs
   unfolding Check.check_schema
   answer_1 e = rw e
 

@@ -1,4 +1,5 @@
 -- The schema S of the paper's example: its bytes are accepted, and are that schema. Assumes nothing.
+use Rattle.std.specs.Prelude.{Err}
 use mathlib.Core.Path.{◌≡◌, refl}
 use mathlib.Core.Bool.{Bool, true, false}
 use mathlib.Core.List.{List, [], ◌∷◌, map}
@@ -7,15 +8,14 @@ use lib.IntN.{pos}
 use lib.ListN.{replicate, set}
 use Rattle.schema.specs.declared.Action.TheVariants.{Cascade}
 use Rattle.schema.specs.declared.Match.TheVariants.{Simple}
-use Rattle.schema.specs.declared.SchemaAnswer.{SchemaAnswer}
-use Rattle.schema.specs.declared.SchemaAnswer.TheVariants.{Accepted, Malformed}
+use Rattle.schema.specs.Check.{SchemaAnswer, Accepted, check_schema}
+use Rattle.schema.specs.declared.SchemaError.TheVariants.{Malformed}
 use Rattle.schema.specs.Ranges.{all_from, any_from, and_all, every, list_from}
 use Rattle.schema.specs.Records.{Schema, key_of}
 use Rattle.schema.specs.Bytes
 use Rattle.schema.specs.Fields
 use Rattle.schema.specs.Fields.{schema_of}
 use Rattle.schema.specs.Check
-use Rattle.schema.specs.Check.{check_schema}
 use Rattle.schema.specs.Sizes
 
 pub bytes_s : List ℕ
@@ -71,7 +71,7 @@ unfolding schema_of Fields.table_from Fields.key_from Fields.action_from Fields.
 broken_keys_lem = refl
 
 -- a match that is none
-pub match_2 : check_schema (set bytes_s 190 2) ≡ Malformed
+pub match_2 : check_schema (set bytes_s 190 2) ≡ Err Malformed
 unfolding check_schema Check.well_formed Check.header_rules Check.starts_with Check.header_rest Check.table_rules Check.size_rules Check.table_rest Check.mask_rule Check.key_rules Check.code_rules Check.windowed_rule Check.key_rest Fields.column_rule Check.columns_rule Check.new_column Bytes.bit all_from every and_all bytes_s
 match_2 = refl
 
@@ -79,7 +79,7 @@ match_2 = refl
 pub folded_s : List (List ℕ)
 folded_s = set bytes_s 25 1 ∷ set bytes_s 25 2 ∷ set bytes_s 26 1 ∷ set bytes_s 105 2 ∷ []
 
-pub folded_columns_lem : map check_schema folded_s ≡ Accepted ∷ Malformed ∷ Malformed ∷ Accepted ∷ []
+pub folded_columns_lem : map check_schema folded_s ≡ Accepted ∷ (Err Malformed) ∷ (Err Malformed) ∷ Accepted ∷ []
 unfolding check_schema Check.well_formed Check.header_rules Check.starts_with Check.header_rest Check.table_rules Check.size_rules Check.table_rest Check.mask_rule Check.key_rules Check.code_rules Check.windowed_rule Check.key_rest Fields.column_rule Check.columns_rule Check.new_column Bytes.bit all_from every and_all folded_s bytes_s
 folded_columns_lem = refl
 
@@ -104,6 +104,6 @@ windowed_keys = refl
 
 -- a windowed key of one column, one that sets NULL, one that cascades, a byte 15 of 2
 pub windowed_refused :
-    map check_schema (set bytes_s 191 1 ∷ set (windowed_s 3 3 0 1) 179 2 ∷ set (windowed_s 3 3 0 1) 180 4 ∷ set (windowed_s 3 3 0 1) 191 2 ∷ []) ≡ replicate 4 Malformed
+    map check_schema (set bytes_s 191 1 ∷ set (windowed_s 3 3 0 1) 179 2 ∷ set (windowed_s 3 3 0 1) 180 4 ∷ set (windowed_s 3 3 0 1) 191 2 ∷ []) ≡ replicate 4 (Err Malformed)
 unfolding windowed_s check_schema Check.well_formed Check.header_rules Check.starts_with Check.header_rest Check.table_rules Check.size_rules Check.table_rest Check.mask_rule Check.key_rules Check.code_rules Check.windowed_rule Check.key_rest Fields.column_rule Check.columns_rule Check.new_column Bytes.bit all_from every and_all bytes_s
 windowed_refused = refl

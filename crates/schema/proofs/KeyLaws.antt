@@ -10,7 +10,7 @@ use borrow.Author.Tests.{ltb-true, lt-ltb, le-ltb, eqb-true, eqb-false, eq-eqb, 
 use lib.Dec.{ltb, eqb}
 use lib.Pow.{pow_mono}
 use lib.ListN.{length}
-use Rattle.schema.specs.declared.SchemaAnswer.TheVariants.{Accepted}
+use Rattle.schema.specs.Check.{Accepted}
 use Rattle.schema.specs.Ranges.{all_from, any_from, list_from}
 use Rattle.schema.specs.Records.{Window, ForeignKey, child_key, unique_columns, key_of}
 use Rattle.schema.specs.Bytes

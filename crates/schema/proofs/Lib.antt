@@ -1,5 +1,6 @@
 -- Laws of the definitions, which the proofs of functions and of other crates cite.
 pub mod RangeLaws
+pub mod RangeChains
 pub mod ListLaws
 pub mod MaskLaws
 pub mod CheckLaws

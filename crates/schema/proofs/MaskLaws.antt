@@ -7,7 +7,7 @@ use native.Mathlib.Nat.{div-div-eq-div-mul, div-one, mul_comm, pow-suc, lt_of_lt
 use lib.Pow.{pow_mono, pow_pos}
 use native.Mathlib.Omega.{arith}
 use native.Mathlib.Numerals.{add-one}
-use borrow.Author.Tests.{eqb-true, eqb-false, ne_eqb, ltb-true, ltb-false}
+use borrow.Author.Tests.{eqb-true, eqb-false, ltb-true, ltb-false}
 use lib.Count.{ones, ones_in, ones_step}
 use lib.Dec.{eqb, ltb}
 use Rattle.schema.specs.Bytes.{bit, column_mask}
@@ -154,12 +154,11 @@ module _ (p : ℕ → ℕ) where
       go true e next = rw (eqb-true i n e) (omega arith)
       go false e next = let ne : i ≡ n → ⊥ = eqb-false i n e in let h = next (omega arith) in omega arith
 
-  -- a column above 7 is in no byte's mask
-  pub mask_past : (n i : ℕ) → i < n → 8 ≤ p i → (u : ℕ) → u < 256 → eqb u 256 ≡ eqb u (column_mask p n)
-  mask_past n i l h u b =
+  -- a mask with a column above 7 is no byte
+  pub mask_past : (n i : ℕ) → i < n → 8 ≤ p i → 256 ≤ column_mask p n
+  mask_past n i l h =
       let big : 2 ^ 8 ≤ 2 ^ p i = pow_mono h in
-      let q = power_below n i l in
-      ne_eqb u 256 (λ e. omega arith) ∙ sym (ne_eqb u (column_mask p n) (λ e. omega arith))
+      let q = power_below n i l in omega arith
 
   -- the mask of no columns, and that of one more
   pub mask_start : 0 ≡ column_mask p 0

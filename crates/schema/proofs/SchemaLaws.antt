@@ -1,4 +1,5 @@
 -- The schema that bytes are, where the bytes break no rule of refusal 1. Assumes nothing.
+use Rattle.std.specs.Prelude.{Err}
 use mathlib.Core.Path.{◌≡◌, refl}
 use mathlib.Core.Bool.{Bool, true, false, cond}
 use mathlib.Core.List.{List}
@@ -7,7 +8,8 @@ use native.Mathlib.Omega.{arith}
 use borrow.Author.Tests.{le-leb}
 use lib.Dec.{leb}
 use lib.ListN.{length}
-use Rattle.schema.specs.declared.SchemaAnswer.TheVariants.{Accepted, Malformed}
+use Rattle.schema.specs.Check.{Accepted}
+use Rattle.schema.specs.declared.SchemaError.TheVariants.{Malformed}
 use Rattle.schema.specs.Ranges.{all}
 use Rattle.schema.specs.Records.{Schema, no_table, no_key, table_of, key_of}
 use Rattle.schema.specs.Fields
@@ -56,7 +58,7 @@ module _ (bs : List ℕ) where
 
 -- an accepted schema breaks no rule of refusal 1
 module _ (bs : List ℕ) (e : Check.check_schema bs ≡ Accepted) where
-  well : (a : Bool) → cond a Accepted Malformed ≡ Accepted → a ≡ true
+  well : (a : Bool) → cond a Accepted (Err Malformed) ≡ Accepted → a ≡ true
   well true h = refl
   well false h = let z : ◌≡◌ {A = ℕ} 0 1 = cc in absurd (omega arith)
 

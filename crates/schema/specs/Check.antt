@@ -1,9 +1,9 @@
 -- The check of schema bytes: refusal 1, the bytes break a rule.
 -- Assumes nothing.
-use Rattle.std.specs.Prelude.{Bool, not, cond, ◌&&◌, ◌||◌, List, [], ◌∷◌, ℕ, ◌+◌, ◌-◌, ◌*◌, ◌/◌, ◌^◌, leb, ltb, eqb, length}
+use Rattle.std.specs.Prelude.{Bool, not, cond, ◌&&◌, ◌||◌, List, [], ◌∷◌, ℕ, ◌+◌, ◌-◌, ◌*◌, ◌/◌, ◌^◌, leb, ltb, eqb, length, Ok, Err, Result}
 use Rattle.schema.specs.Bytes.{byte, half, word, bit}
-use Rattle.schema.specs.declared.SchemaAnswer.{SchemaAnswer}
-use Rattle.schema.specs.declared.SchemaAnswer.TheVariants.{Accepted, Malformed}
+use Rattle.schema.specs.declared.SchemaError.{SchemaError}
+use Rattle.schema.specs.declared.SchemaError.TheVariants.{Malformed}
 use Rattle.schema.specs.Ranges.{all_from, every}
 use Rattle.schema.specs.Fields
 
@@ -139,10 +139,16 @@ well_formed bs =
 
 -- ---- the answer
 
+abbrev pub SchemaAnswer : Type 0
+SchemaAnswer = Result (Unit {0}) SchemaError
+
+abbrev pub Accepted : SchemaAnswer
+Accepted = Ok tt
+
 unfoldable pub check_schema : List ℕ → SchemaAnswer
-check_schema bs = cond (well_formed bs) Accepted Malformed
+check_schema bs = cond (well_formed bs) Accepted (Err Malformed)
 
 -- the paper's number of an answer; 0 is accepted
 abbrev pub number_of : SchemaAnswer → ℕ
-number_of Accepted = 0
-number_of Malformed = 1
+number_of (Ok tt) = 0
+number_of (Err Malformed) = 1

@@ -5,24 +5,24 @@
 ghost use Rattle.std.specs.Prelude.{◌≡◌};
 ghost use Rattle.schema.specs.Check;
 
-use schema::SchemaAnswer;
+use schema::SchemaError;
 
 // The check of schema bytes.
-pub fn check_schema(bytes: &[u8]) -> SchemaAnswer
+pub fn check_schema(bytes: &[u8]) -> Result<(), SchemaError>
     ensures { result ≡ Check.check_schema bytes.now }
 {
     if !schema_form::is_well_formed(bytes) {
-        return SchemaAnswer::Malformed;
+        return Err(SchemaError::Malformed);
     }
-    SchemaAnswer::Accepted
+    Ok(())
 }
 
 // The number of an answer: 0, or that of the refusal.
-pub fn number(answer: SchemaAnswer) -> u8
+pub fn number(answer: Result<(), SchemaError>) -> u8
     ensures { result ≡ Check.number_of answer }
 {
     match answer {
-        SchemaAnswer::Accepted => 0,
-        SchemaAnswer::Malformed => 1,
+        Ok(()) => 0,
+        Err(SchemaError::Malformed) => 1,
     }
 }

@@ -2,21 +2,26 @@
 
 #![tactic(auto)]
 
-ghost use Rattle.std.specs.Prelude.{◌≡◌, true, false, ◌+◌, ◌*◌, ◌≤◌, ◌<◌, length};
-ghost use Rattle.schema.specs.Ranges.{all_from};
+ghost use Rattle.std.specs.Prelude.{◌≡◌, ◌+◌, ◌≤◌, ◌<◌, leb, length};
 ghost use Rattle.schema.specs.Fields;
 ghost use Rattle.schema.specs.Check;
 
+use schema::{Action, Match};
+
 // ---- a foreign key record
 
-// 0 NO ACTION, 1 RESTRICT, 2 SET NULL, 3 SET DEFAULT, 4 CASCADE; any other code is refused.
-fn action_rule(code: u8) -> bool
+// Whether a code is an action's.
+fn action_rule(code: usize) -> bool
     ensures { result ≡ Check.action_rule code }
 {
-    match code {
-        0 | 1 | 2 | 3 | 4 => true,
-        5..=255 => false,
-    }
+    Action::try_from(code).is_ok()
+}
+
+// Whether a code is a match's.
+fn match_rule(code: usize) -> bool
+    ensures { result ≡ leb code 1 }
+{
+    Match::try_from(code).is_ok()
 }
 
 // Whether column i, counted from at, is below the number of columns.
@@ -27,57 +32,12 @@ fn column_rule(s: &[u8], at: usize, columns: usize, i: usize) -> bool
     numbers::byte_at(s, at + i) < columns
 }
 
-// The same for n columns.
-fn column_rules(s: &[u8], at: usize, columns: usize, n: usize) -> bool
-    requires { at + n ≤ length s.now }
-    ensures { result ≡ all_from (Fields.column_rule s.now at columns) n 0 }
-{
-    let mut i = 0;
-    while i < n {
-        if !column_rule(s, at, columns, i) {
-            return false;
-        }
-        i += 1;
-    }
-    true
-}
-
-// Whether columns i and j, counted from at, differ.
-fn differ(s: &[u8], at: usize, i: usize, j: usize) -> bool
-    requires { (at + i < length s.now) × (at + j < length s.now) }
-    ensures { result ≡ Check.differ s.now at i j }
-{
-    s[at + i] != s[at + j]
-}
-
-// Whether column i is none of those before it.
+// Whether column i, counted from at, is none of those before it.
 fn new_column(s: &[u8], at: usize, i: usize) -> bool
     requires { at + i < length s.now }
     ensures { result ≡ Check.new_column s.now at i }
 {
-    let mut j = 0;
-    while j < i {
-        if !differ(s, at, i, j) {
-            return false;
-        }
-        j += 1;
-    }
-    true
-}
-
-// Whether n columns are distinct.
-fn distinct(s: &[u8], at: usize, n: usize) -> bool
-    requires { at + n ≤ length s.now }
-    ensures { result ≡ all_from (Check.new_column s.now at) n 0 }
-{
-    let mut i = 0;
-    while i < n {
-        if !new_column(s, at, i) {
-            return false;
-        }
-        i += 1;
-    }
-    true
+    (0..i).all(|j| s[at + i] != s[at + j])
 }
 
 // Whether n of four columns are distinct, and those past n are 255.
@@ -85,7 +45,7 @@ fn columns_rule(s: &[u8], at: usize, n: usize) -> bool
     requires { (at + 4 ≤ length s.now) × (n ≤ 4) }
     ensures { result ≡ Check.columns_rule s.now at n }
 {
-    distinct(s, at, n) & schema_tables::all_bytes(s, at, 255, n, 4)
+    (0..n).all(|i| new_column(s, at, i)) && schema_tables::all_bytes(s, at, 255, n, 4)
 }
 
 // Whether foreign key k, if windowed, has two columns or more and both actions below 2.
@@ -110,10 +70,10 @@ fn code_rules(s: &[u8], k: usize) -> bool
     let tables = numbers::half_at(s, 4);
     (numbers::byte_at(s, at) < tables)
         & (numbers::byte_at(s, at + 2) <= 1)
-        & action_rule(s[at + 3])
-        & action_rule(s[at + 4])
+        & action_rule(numbers::byte_at(s, at + 3))
+        & action_rule(numbers::byte_at(s, at + 4))
         & schema_tables::is_within(1, 4, numbers::byte_at(s, at + 5))
-        & (numbers::byte_at(s, at + 14) <= 1)
+        & match_rule(numbers::byte_at(s, at + 14))
         & (numbers::byte_at(s, at + 15) <= 1)
         & windowed_rule(s, k)
 }
@@ -130,22 +90,9 @@ fn key_rules(s: &[u8], k: usize) -> bool
     let child = numbers::byte_at(s, at);
     let n = numbers::byte_at(s, at + 5);
     let columns = numbers::byte_at(s, 16 + 80 * child + 2);
-    column_rules(s, at + 6, columns, n) & columns_rule(s, at + 6, n) & columns_rule(s, at + 10, n)
-}
-
-// Whether the first n foreign key records break none of them.
-fn all_keys(s: &[u8], n: usize) -> bool
-    requires { (16 ≤ length s.now) × (Fields.key_start s.now n ≤ length s.now) }
-    ensures { result ≡ all_from (Check.key_rules s.now) n 0 }
-{
-    let mut k = 0;
-    while k < n {
-        if !key_rules(s, k) {
-            return false;
-        }
-        k += 1;
-    }
-    true
+    (0..n).all(|i| column_rule(s, at + 6, columns, i))
+        && columns_rule(s, at + 6, n)
+        && columns_rule(s, at + 10, n)
 }
 
 // Whether the bytes break no rule that refusal 1 names.
@@ -157,5 +104,5 @@ pub fn is_well_formed(s: &[u8]) -> bool
     }
     let tables = numbers::half_at(s, 4);
     let keys = numbers::half_at(s, 6);
-    schema_tables::all_tables(s, tables) & all_keys(s, keys)
+    schema_tables::all_tables(s, tables) && (0..keys).all(|k| key_rules(s, k))
 }

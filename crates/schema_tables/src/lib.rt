@@ -2,7 +2,7 @@
 
 #![tactic(auto)]
 
-ghost use Rattle.std.specs.Prelude.{◌≡◌, true, false, ◌+◌, ◌-◌, ◌*◌, ◌≤◌, ◌<◌, length};
+ghost use Rattle.std.specs.Prelude.{◌≡◌, ◌+◌, ◌-◌, ◌*◌, ◌≤◌, ◌<◌, length};
 ghost use Rattle.schema.specs.Ranges.{all_from};
 ghost use Rattle.schema.specs.Fields;
 ghost use Rattle.schema.specs.Check;
@@ -13,58 +13,17 @@ ghost use Rattle.schema.specs.Check;
 pub fn is_within(lo: usize, hi: usize, x: usize) -> bool
     ensures { result ≡ Check.within lo hi x }
 {
-    (lo <= x) & (x <= hi)
+    (lo..=hi).contains(&x)
 }
 
 // ---- runs of bytes
-
-// Whether byte i is that of the start.
-fn is_same(s: &[u8], start: &[u8], i: usize) -> bool
-    requires { (i < length s.now) × (i < length start.now) }
-    ensures { result ≡ Check.same_at s.now start.now i }
-{
-    s[i] == start[i]
-}
-
-// Whether the bytes begin with a fixed byte string.
-fn starts_with(s: &[u8], start: &[u8]) -> bool
-    ensures { result ≡ Check.starts_with start.now s.now }
-{
-    if s.len() < start.len() {
-        return false;
-    }
-    let n = start.len();
-    let mut i = 0;
-    while i < n {
-        if !is_same(s, start, i) {
-            return false;
-        }
-        i += 1;
-    }
-    true
-}
-
-// Whether the byte at at + i is b.
-pub fn is_byte(s: &[u8], at: usize, b: u8, i: usize) -> bool
-    requires { at + i < length s.now }
-    ensures { result ≡ Check.is_byte s.now at b i }
-{
-    s[at + i] == b
-}
 
 // Whether bytes from to to, counted from at, are all b.
 pub fn all_bytes(s: &[u8], at: usize, b: u8, from: usize, to: usize) -> bool
     requires { (from ≤ to) × (at + to ≤ length s.now) }
     ensures { result ≡ all_from (Check.is_byte s.now at b) (to - from) from }
 {
-    let mut i = from;
-    while i < to {
-        if !is_byte(s, at, b, i) {
-            return false;
-        }
-        i += 1;
-    }
-    true
+    (from..to).all(|i| s[at + i] == b)
 }
 
 // ---- the header
@@ -91,10 +50,7 @@ fn header_rest(s: &[u8]) -> bool
 pub fn header_rules(s: &[u8]) -> bool
     ensures { result ≡ Check.header_rules s.now }
 {
-    if s.len() < 16 {
-        return false;
-    }
-    starts_with(s, b"FKB1") & header_rest(s)
+    16 <= s.len() && s.starts_with(b"FKB1") && header_rest(s)
 }
 
 // ---- a table record
@@ -105,21 +61,6 @@ fn mask_rule(s: &[u8], at: usize, columns: usize, i: usize) -> bool
     ensures { result ≡ Check.mask_rule s.now at columns i }
 {
     (numbers::byte_at(s, at + i) >> columns) == 0
-}
-
-// The same for n masks.
-fn mask_rules(s: &[u8], at: usize, columns: usize, n: usize) -> bool
-    requires { (at + n ≤ length s.now) × (columns < 64) }
-    ensures { result ≡ all_from (Check.mask_rule s.now at columns) n 0 }
-{
-    let mut i = 0;
-    while i < n {
-        if !mask_rule(s, at, columns, i) {
-            return false;
-        }
-        i += 1;
-    }
-    true
 }
 
 // Whether unique key i + 1 is unused where unique key i is.
@@ -142,21 +83,6 @@ fn default_rule(s: &[u8], t: usize, c: usize) -> bool
     (numbers::word_at(s, at + 16 + 8 * c) == 0) | ((c < columns) & !numbers::is_bit(nulls, c))
 }
 
-// The same for all eight defaults.
-fn default_rules(s: &[u8], t: usize) -> bool
-    requires { Fields.table_start t + 80 ≤ length s.now }
-    ensures { result ≡ all_from (Check.default_rule s.now t) 8 0 }
-{
-    let mut c = 0;
-    while c < 8 {
-        if !default_rule(s, t, c) {
-            return false;
-        }
-        c += 1;
-    }
-    true
-}
-
 // Rows 1 to 1,024, columns 1 to 8.
 fn size_rules(s: &[u8], t: usize) -> bool
     requires { Fields.table_start t + 80 ≤ length s.now }
@@ -176,12 +102,10 @@ fn table_rules(s: &[u8], t: usize) -> bool
     }
     let at = 16 + 80 * t;
     let columns = numbers::byte_at(s, at + 2);
-    mask_rules(s, at + 3, columns, 7)
-        & unique_rule(s, t, 0)
-        & unique_rule(s, t, 1)
-        & unique_rule(s, t, 2)
-        & all_bytes(s, at + 10, 0, 0, 6)
-        & default_rules(s, t)
+    (0..7).all(|i| mask_rule(s, at + 3, columns, i))
+        && (0..3).all(|i| unique_rule(s, t, i))
+        && all_bytes(s, at + 10, 0, 0, 6)
+        && (0..8).all(|c| default_rule(s, t, c))
 }
 
 // Whether the first n table records break no rule.
@@ -189,12 +113,5 @@ pub fn all_tables(s: &[u8], n: usize) -> bool
     requires { 16 + 80 * n ≤ length s.now }
     ensures { result ≡ all_from (Check.table_rules s.now) n 0 }
 {
-    let mut t = 0;
-    while t < n {
-        if !table_rules(s, t) {
-            return false;
-        }
-        t += 1;
-    }
-    true
+    (0..n).all(|t| table_rules(s, t))
 }

@@ -13,8 +13,8 @@ use lib.Seq.{sets, take_all}
 use Rattle.schema.specs.Records.{Schema}
 use Rattle.rules.specs.declared.Refusal.{Refusal}
 use Rattle.rules.specs.declared.Refusal.TheVariants.{KeptOutOfRange, OrphansLeft}
-use Rattle.rules.specs.declared.Verdict.{Verdict}
-use Rattle.rules.specs.declared.Verdict.TheVariants.{Pass, Fail}
+use Rattle.rules.specs.Refusals.{Verdict}
+use Rattle.std.specs.Prelude.{Ok, Err}
 use Rattle.rules.specs.Lists.{𝟘, plus}
 use Rattle.rules.specs.Values.{nat_of}
 use Rattle.rules.specs.Book.{Book, with_work, emptied}
@@ -79,7 +79,7 @@ module _ {s : Schema} {a : List ℤ} (f : Fit s a) (tally : List ℤ) {before ke
   settled_is : (o : Verdict) → settle_verdict s (in_transaction (view s a).levels) kept ≡ o → o ≡ settled s tally a
   settled_is o e = sym e ∙ ap (settle_verdict s (in_transaction (view s a).levels)) kept_is
 
-  pub settle_19 : t ≡ false → (Fail KeptOutOfRange ≡ settled s tally a) × After s (Fail KeptOutOfRange) (plus (view s a).kept tally) a a
+  pub settle_19 : t ≡ false → (Err KeptOutOfRange ≡ settled s tally a) × After s (Err KeptOutOfRange) (plus (view s a).kept tally) a a
   unfolding After
   settle_19 p = (settled_is _ (verdict_19 s _ kept (in_range_lem ∙ p)), refl)
 
@@ -88,18 +88,18 @@ module _ {s : Schema} {a : List ℤ} (f : Fit s a) (tally : List ℤ) {before ke
     enforced_is : enforced (in_transaction (view s a).levels) s kept ≡ u
     enforced_is = ap (λ i. enforced i s kept) (inside_word f ∙ ap (leb 1) (sym en)) ∙ sym eu
 
-    pub settle_20 : u ≡ false → (Fail OrphansLeft ≡ settled s tally a) × After s (Fail OrphansLeft) (plus (view s a).kept tally) a a
+    pub settle_20 : u ≡ false → (Err OrphansLeft ≡ settled s tally a) × After s (Err OrphansLeft) (plus (view s a).kept tally) a a
     unfolding After
     settle_20 q = (settled_is _ (verdict_20 s _ kept (in_range_lem ∙ p) (enforced_is ∙ q)), refl)
 
-    pub settle_pass : u ≡ true → {a' : List ℤ} → Holds s a' (after_statement (work_of s a) kept (view s a)) → (Pass ≡ settled s tally a) × After s Pass (plus (view s a).kept tally) a a'
+    pub settle_pass : u ≡ true → {a' : List ℤ} → Holds s a' (after_statement (work_of s a) kept (view s a)) → (Ok tt ≡ settled s tally a) × After s (Ok tt) (plus (view s a).kept tally) a a'
     unfolding After
     settle_pass q {a'} h = (settled_is _ (verdict_pass s _ kept (in_range_lem ∙ p) (enforced_is ∙ q)), subst (λ k. Holds s a' (after_statement (work_of s a) k (view s a))) kept_is h)
 
-pub failed_same : (s : Schema) (kept a a' : List ℤ) {o : Verdict} {c : Refusal} → o ≡ Fail c → After s o kept a a' → a' ≡ a
+pub failed_same : (s : Schema) (kept a a' : List ℤ) {o : Verdict} {c : Refusal} → o ≡ Err c → After s o kept a a' → a' ≡ a
 unfolding After
 failed_same s kept a a' q h = subst (λ o. After s o kept a a') q h
 
-pub passed_holds : (s : Schema) (kept a a' : List ℤ) {o : Verdict} → o ≡ Pass → After s o kept a a' → Holds s a' (after_statement (work_of s a) kept (view s a))
+pub passed_holds : (s : Schema) (kept a a' : List ℤ) {o : Verdict} → o ≡ Ok tt → After s o kept a a' → Holds s a' (after_statement (work_of s a) kept (view s a))
 unfolding After
 passed_holds s kept a a' q h = subst (λ o. After s o kept a a') q h

@@ -1,16 +1,17 @@
 -- What a statement comes to, case by case.
 -- Assumes nothing.
-use mathlib.Core.Path.{◌≡◌, refl, ◌∙◌, ap}
+use mathlib.Core.Path.{◌≡◌, refl, sym, ◌∙◌, ap}
 use mathlib.Core.Bool.{Bool, true, false, ◌&&◌, ◌||◌}
 use mathlib.Core.List.{List, [], ◌∷◌}
-use Prim.Native.Nat.{ℕ, ◌+◌, ◌<◌}
-use native.Mathlib.Numerals.{add-one}
+use Prim.Native.Nat.{ℕ, zero, suc, ◌+◌, ◌≤◌, ◌<◌}
+use native.Mathlib.Omega.{arith}
 use lib.IntN.{ℤ}
 use lib.ListN.{length, get_or, drop}
 use lib.Seq.{drop-cons, drop-length}
+use Rattle.schema.specs.Ranges.{all_from}
 use Rattle.schema.specs.Records.{ForeignKey, Schema, no_key}
 use Rattle.rules.specs.declared.Refusal.TheVariants.{KeptOutOfRange, OrphansLeft}
-use Rattle.rules.specs.declared.Verdict.TheVariants.{Pass, Fail}
+use Rattle.std.specs.Prelude.{Ok, Err}
 use Rattle.rules.specs.Lists.{𝟘}
 use Rattle.rules.specs.Values.{same_word, all_zero}
 use Rattle.rules.specs.Refusals.{failing}
@@ -22,25 +23,27 @@ use Rattle.settlement.specs.Settled.{settle_verdict}
 
 -- ---- immediate keys, one after the other
 
-module _ (ks : List ForeignKey) (xs : List ℤ) (k : ℕ) where
-  module _ (h : k < length ks) (l : k < length xs) where
-    immediate_at : immediate_zero (drop k ks) (drop k xs) ≡ ((get_or ks k no_key).deferred || same_word 𝟘 (get_or xs k 𝟘)) && immediate_zero (drop (k + 1) ks) (drop (k + 1) xs)
-    unfolding immediate_zero
-    immediate_at = rw (add-one k, drop-cons ks k no_key h, drop-cons xs k 𝟘 l) refl
+module _ (ks : List ForeignKey) (xs : List ℤ) where
+  -- key k lets its kept number pass
+  abbrev pub passes_at : ℕ → Bool
+  passes_at k = (get_or ks k no_key).deferred || same_word 𝟘 (get_or xs k 𝟘)
 
-    pub immediate_miss : ((get_or ks k no_key).deferred || same_word 𝟘 (get_or xs k 𝟘)) ≡ false → immediate_zero (drop k ks) (drop k xs) ≡ false
-    immediate_miss e = immediate_at ∙ ap (λ t. t && immediate_zero (drop (k + 1) ks) (drop (k + 1) xs)) e
-
-    pub immediate_more : ((get_or ks k no_key).deferred || same_word 𝟘 (get_or xs k 𝟘)) ≡ true → immediate_zero (drop k ks) (drop k xs) ≡ immediate_zero (drop (k + 1) ks) (drop (k + 1) xs)
-    immediate_more e = immediate_at ∙ ap (λ t. t && immediate_zero (drop (k + 1) ks) (drop (k + 1) xs)) e
-
-  pub immediate_end : k ≡ length ks → immediate_zero (drop k ks) (drop k xs) ≡ true
+  immediate_at : (k : ℕ) → k < length ks → k < length xs → passes_at k && immediate_zero (drop (suc k) ks) (drop (suc k) xs) ≡ immediate_zero (drop k ks) (drop k xs)
   unfolding immediate_zero
-  immediate_end e = rw (e, drop-length ks) (go (drop (length ks) xs))
-    where
-      go : (ys : List ℤ) → immediate_zero [] ys ≡ true
-      go [] = refl
-      go (y ∷ ys) = refl
+  immediate_at k h l = rw (drop-cons ks k no_key h, drop-cons xs k 𝟘 l) refl
+
+  immediate_end : (ys : List ℤ) → immediate_zero [] ys ≡ true
+  unfolding immediate_zero
+  immediate_end [] = refl
+  immediate_end (y ∷ ys) = refl
+
+  immediate_from : (n k : ℕ) → k + n ≡ length ks → length ks ≤ length xs → all_from passes_at n k ≡ immediate_zero (drop k ks) (drop k xs)
+  unfolding all_from
+  immediate_from zero k h l = let e : k ≡ length ks = omega arith in sym (rw (e, drop-length ks) (immediate_end (drop (length ks) xs)))
+  immediate_from (suc n) k h l = ap (λ t. passes_at k && t) (immediate_from n (suc k) (omega arith) l) ∙ immediate_at k (omega arith) (omega arith)
+
+  pub immediate_is : {n : ℕ} → n ≡ length ks → length ks ≤ length xs → all_from passes_at n 0 ≡ immediate_zero ks xs
+  immediate_is {n} h l = immediate_from n 0 (omega arith) l
 
 -- ---- 20: inside a transaction immediate keys, outside every key
 
@@ -56,15 +59,15 @@ module _ (s : Schema) (kept : List ℤ) where
 -- ---- the verdict: 19, then 20
 
 module _ (s : Schema) (inside : Bool) (kept : List ℤ) where
-  pub verdict_19 : kept_in_range s s.keys kept ≡ false → settle_verdict s inside kept ≡ Fail KeptOutOfRange
+  pub verdict_19 : kept_in_range s s.keys kept ≡ false → settle_verdict s inside kept ≡ Err KeptOutOfRange
   unfolding settle_verdict failing
   verdict_19 e = rw e refl
 
-  pub verdict_20 : kept_in_range s s.keys kept ≡ true → enforced inside s kept ≡ false → settle_verdict s inside kept ≡ Fail OrphansLeft
+  pub verdict_20 : kept_in_range s s.keys kept ≡ true → enforced inside s kept ≡ false → settle_verdict s inside kept ≡ Err OrphansLeft
   unfolding settle_verdict failing
   verdict_20 e f = rw (e, f) refl
 
-  pub verdict_pass : kept_in_range s s.keys kept ≡ true → enforced inside s kept ≡ true → settle_verdict s inside kept ≡ Pass
+  pub verdict_pass : kept_in_range s s.keys kept ≡ true → enforced inside s kept ≡ true → settle_verdict s inside kept ≡ Ok tt
   unfolding settle_verdict failing
   verdict_pass e f = rw (e, f) refl
 

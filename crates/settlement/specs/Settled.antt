@@ -1,12 +1,10 @@
 -- The kept numbers settled.
 -- Assumes nothing.
-use Rattle.std.specs.Prelude.{◌≡◌, Bool, not, List, ℕ, ℤ, take, drop}
+use Rattle.std.specs.Prelude.{◌≡◌, Bool, not, List, ℕ, ℤ, take, drop, Ok, Err}
 use Rattle.schema.specs.Records.{Schema}
 use Rattle.rules.specs.declared.Refusal.TheVariants.{KeptOutOfRange, OrphansLeft}
-use Rattle.rules.specs.declared.Verdict.{Verdict}
-use Rattle.rules.specs.declared.Verdict.TheVariants.{Pass, Fail}
 use Rattle.rules.specs.Lists.{plus}
-use Rattle.rules.specs.Refusals.{failing}
+use Rattle.rules.specs.Refusals.{Verdict, failing}
 use Rattle.rules.specs.State.{in_transaction, kept_in_range}
 use Rattle.rules.specs.Statement.{enforced, after_statement}
 use Rattle.rules.specs.Area.{view}
@@ -18,12 +16,12 @@ use Rattle.sums.specs.Small.{Small}
 unfoldable pub settle_verdict : Schema → Bool → List ℤ → Verdict
 settle_verdict s inside kept =
     failing (not (kept_in_range s s.keys kept)) KeptOutOfRange
-    (failing (not (enforced inside s kept)) OrphansLeft Pass)
+    (failing (not (enforced inside s kept)) OrphansLeft (Ok tt))
 
 -- the area settled by a verdict: an accepted statement's book, or nothing written
 unfoldable pub After : Schema → Verdict → List ℤ → List ℤ → List ℤ → Type 0
-After s Pass kept a a' = Holds s a' (after_statement (work_of s a) kept (view s a))
-After s (Fail c) kept a a' = a' ≡ a
+After s (Ok tt) kept a a' = Holds s a' (after_statement (work_of s a) kept (view s a))
+After s (Err c) kept a a' = a' ≡ a
 
 -- what settling requires
 pub record Settling (b : List ℕ) (a tally : List ℤ) : Type 0 where

@@ -10,50 +10,44 @@ use Rattle.folding.specs.Masks.{masked, first_mask}
 use Rattle.rows.specs.declared.SoughtKey.{SoughtKey}
 use Rattle.rows.specs.declared.TableRows.{TableRows}
 use Rattle.rows.specs.Standing.{rows_in}
-use Rattle.skips.specs.declared.TwoWords.{TwoWords}
+use Rattle.skips.specs.declared.Word.{Word}
 use Rattle.skips.specs.declared.MaskedWord.{MaskedWord}
-use Rattle.skips.specs.declared.MaskedPair.{MaskedPair}
+use Rattle.skips.specs.declared.Both.{Both}
 
--- the words of a sought key's first two columns
-unfoldable pub first_words : SoughtKey → TwoWords
-first_words key =
-    record {
-      c = suc (get_or key.cs 0 0);
-      v = get_or key.vs 0 𝟘;
-      d = suc (get_or key.cs 1 0);
-      u = get_or key.vs 1 𝟘;
-    }
+-- a row has a word
+unfoldable pub has_word : Word → Row → Bool
+has_word s row = same_word (get_or row s.place 𝟘) s.value
 
--- word c of a row is v
-unfoldable pub has_word : ℕ → ℤ → Row → Bool
-has_word c v row = same_word (get_or row c 𝟘) v
+-- it has a word under its mask
+unfoldable pub has_masked : MaskedWord → Row → Bool
+has_masked s row = same_word (masked s.mask (get_or row s.place 𝟘)) s.value
 
--- it has both words
-unfoldable pub alike : TwoWords → Row → Bool
-alike s row = has_word s.c s.v row && has_word s.d s.u row
+-- it passes two tests
+unfoldable pub both : (Row → Bool) → (Row → Bool) → Row → Bool
+both p q row = p row && q row
 
--- ---- folded columns
+-- ---- what is looked at of a sought key
 
--- the word of column i of a sought key, under the bits that it is looked at by first
+-- the word of column i
+unfoldable pub word_of : SoughtKey → ℕ → Word
+word_of key i = record { place = suc (get_or key.cs i 0); value = get_or key.vs i 𝟘 }
+
+-- those of its first two columns
+unfoldable pub first_words : SoughtKey → Both Word Word
+first_words key = record { first = word_of key 0; second = word_of key 1 }
+
+-- the word of column i, under the bits that it is looked at by first
 unfoldable pub masked_word : SoughtKey → ℕ → MaskedWord
 masked_word key i =
     record {
-      c = suc (get_or key.cs i 0);
-      m = first_mask (bit i key.folded);
-      v = masked (first_mask (bit i key.folded)) (get_or key.vs i 𝟘);
+      place = suc (get_or key.cs i 0);
+      mask = first_mask (bit i key.folded);
+      value = masked (first_mask (bit i key.folded)) (get_or key.vs i 𝟘);
     }
 
 -- those of its first two columns
-unfoldable pub masked_pair : SoughtKey → MaskedPair
+unfoldable pub masked_pair : SoughtKey → Both MaskedWord MaskedWord
 masked_pair key = record { first = masked_word key 0; second = masked_word key 1 }
-
--- a row has a word under its mask
-unfoldable pub has_masked : MaskedWord → Row → Bool
-has_masked s row = same_word (masked s.m (get_or row s.c 𝟘)) s.v
-
--- it has both
-unfoldable pub near : MaskedPair → Row → Bool
-near s row = has_masked s.first row && has_masked s.second row
 
 -- ---- four rows
 

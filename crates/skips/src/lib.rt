@@ -1,104 +1,139 @@
-// Rows that cannot have a key, passed over four at a time.
+// Tests of a row, and rows passed over that fail one, four at a time.
 
 #![tactic(auto)]
 
-ghost use Rattle.std.specs.Prelude.{◌≡◌, ◌+◌, ◌*◌, ◌≤◌, ◌<◌, length};
+ghost use Rattle.std.specs.Prelude.{◌≡◌, Bool, ℕ, suc, ◌+◌, ◌≤◌, ◌<◌, length};
+ghost use Rattle.rules.specs.Rows.{Row};
 ghost use Rattle.bridge.specs.Ready.{row_in};
 ghost use Rattle.rows.specs.Standing.{Standing};
-ghost use Rattle.rows.specs.Sought.{SoughtIn};
-ghost use Rattle.skips.specs.Skipped.{first_words, has_word, alike, masked_word, masked_pair, has_masked, near, one_of_four, Skipped};
+ghost use Rattle.rows.specs.Sought.{has_value, has_sought, SoughtIn};
+ghost use Rattle.skips.specs.Skipped.{word_of, first_words, has_word, both, masked_word, masked_pair, has_masked, one_of_four, Skipped};
 
 use rows::{SoughtKey, TableRows};
 
-// Two words that a row must have: word c is v, word d is u.
-#[derive(Clone, Copy)]
-pub struct TwoWords {
-    pub c: usize,
-    pub v: i64,
-    pub d: usize,
-    pub u: i64,
+// ---- a test of a row
+
+// A test of a row by its words. The row stands at p of the area, in w words.
+pub trait RowTest {
+    // Which rows pass.
+    ghost accepts: { Self → Row → Bool };
+
+    // What it asks of the number of a row's words, beyond that they are in the area.
+    ghost fits: { Self → ℕ → Type 0 };
+
+    // Whether the row at p passes.
+    fn passes(&self, area: &[i64], p: usize, w: usize) -> bool
+        requires { (p + w ≤ length area.now) × fits self.now w }
+        ensures { result ≡ accepts self.now (row_in area.now p w) };
+
+    // Whether one of four rows from row j on does.
+    fn one_of_four(&self, area: &[i64], table: TableRows, j: usize) -> bool
+        requires { Standing area.now table × ((j + 4 ≤ table.count) × fits self.now table.width) }
+        ensures { result ≡ one_of_four (accepts self.now) area.now table.start table.width j }
+    {
+        let w = table.width;
+        let p = table.start + j * w;
+        self.passes(area, p, w)
+            || self.passes(area, p + w, w)
+            || self.passes(area, p + w + w, w)
+            || self.passes(area, p + w + w + w, w)
+    }
 }
 
-// A word under a mask that a row must have: word c under mask m is v.
+// A word that a row must have.
+#[derive(Clone, Copy)]
+pub struct Word {
+    pub place: usize,
+    pub value: i64,
+}
+
+impl RowTest for Word {
+    ghost accepts = { has_word };
+
+    ghost fits = { λ s w. s.place < w };
+
+    fn passes(&self, area: &[i64], p: usize, w: usize) -> bool {
+        words::same_word(area[p + self.place], self.value)
+    }
+}
+
+// A word that a row must have under a mask.
 #[derive(Clone, Copy)]
 pub struct MaskedWord {
-    pub c: usize,
-    pub m: i64,
-    pub v: i64,
+    pub place: usize,
+    pub mask: i64,
+    pub value: i64,
 }
 
-// Two of them.
+impl RowTest for MaskedWord {
+    ghost accepts = { has_masked };
+
+    ghost fits = { λ s w. s.place < w };
+
+    fn passes(&self, area: &[i64], p: usize, w: usize) -> bool {
+        words::same_word(
+            folding::under_mask(area[p + self.place], self.mask),
+            self.value,
+        )
+    }
+}
+
+// Two tests, both of which a row must pass.
 #[derive(Clone, Copy)]
-pub struct MaskedPair {
-    pub first: MaskedWord,
-    pub second: MaskedWord,
+pub struct Both<A, B> {
+    pub first: A,
+    pub second: B,
 }
 
-// The words of a sought key's first two columns.
-pub fn first_words(key: SoughtKey) -> TwoWords
-    requires { (2 ≤ key.n) × SoughtIn 9 key }
-    ensures { result ≡ first_words key }
-{
-    let c = key.cs[0] + 1;
-    let v = key.vs[0];
-    let d = key.cs[1] + 1;
-    let u = key.vs[1];
-    TwoWords {
-        c: c,
-        v: v,
-        d: d,
-        u: u,
+impl<A: RowTest, B: RowTest> RowTest for Both<A, B> {
+    ghost accepts = { λ s. both (A.accepts s.first) (B.accepts s.second) };
+
+    ghost fits = { λ s w. A.fits s.first w × B.fits s.second w };
+
+    fn passes(&self, area: &[i64], p: usize, w: usize) -> bool {
+        self.first.passes(area, p, w) && self.second.passes(area, p, w)
     }
 }
 
-// Whether word c of the row at p is v.
-fn has_word(area: &[i64], p: usize, w: usize, c: usize, v: i64) -> bool
-    requires { (p + w ≤ length area.now) × (c < w) }
-    ensures { result ≡ has_word c v (row_in area.now p w) }
-{
-    words::same_word(area[p + c], v)
+// A value that a live row must have in a column that is not folded.
+#[derive(Clone, Copy)]
+pub struct Value {
+    pub column: usize,
+    pub value: i64,
 }
 
-// Whether the row at p holds what is pair.
-pub fn is_alike(area: &[i64], p: usize, w: usize, pair: TwoWords) -> bool
-    requires { (p + w ≤ length area.now) × ((pair.c < w) × (pair.d < w)) }
-    ensures { result ≡ alike pair (row_in area.now p w) }
-{
-    if !has_word(area, p, w, pair.c, pair.v) {
-        return false;
+impl RowTest for Value {
+    ghost accepts = { λ s. has_value s.column s.value };
+
+    ghost fits = { λ s w. (w ≤ 9) × (suc s.column < w) };
+
+    fn passes(&self, area: &[i64], p: usize, w: usize) -> bool {
+        rows::has_value(area, p, w, self.column, self.value)
     }
-    has_word(area, p, w, pair.d, pair.u)
 }
 
-// Whether one of four rows from row j on holds what is pair.
-fn four_alike(area: &[i64], start: usize, w: usize, pair: TwoWords, j: usize) -> bool
-    requires { (start + (j + 4) * w ≤ length area.now) × ((pair.c < w) × (pair.d < w)) }
-    ensures { result ≡ one_of_four (alike pair) area.now start w j }
-{
-    let p = start + j * w;
-    if is_alike(area, p, w, pair) {
-        return true;
+// A key that a live row must have.
+impl RowTest for SoughtKey {
+    ghost accepts = { has_sought };
+
+    ghost fits = { λ s w. (0 < w) × ((w ≤ 9) × SoughtIn w s) };
+
+    fn passes(&self, area: &[i64], p: usize, w: usize) -> bool {
+        rows::has_key(area, p, w, *self)
     }
-    if is_alike(area, p + w, w, pair) {
-        return true;
-    }
-    if is_alike(area, p + w + w, w, pair) {
-        return true;
-    }
-    is_alike(area, p + w + w + w, w, pair)
 }
 
-// A row from row `from` on, below which none has both words, four rows at a time.
-pub fn skip_rows(area: &[i64], table: TableRows, pair: TwoWords, from: usize) -> usize
-    requires { Standing area.now table × ((from ≤ table.count) × ((pair.c < table.width) × (pair.d < table.width))) }
-    ensures { Skipped (alike pair) area.now table from result }
+// ---- rows passed over
+
+// A row from row `from` on, below which none passes, four rows at a time.
+pub fn skip<T: RowTest>(area: &[i64], table: TableRows, test: &T, from: usize) -> usize
+    requires { Standing area.now table × ((from ≤ table.count) × T.fits test.now table.width) }
+    ensures { Skipped (T.accepts test.now) area.now table from result }
 {
-    let start = table.start;
-    let w = table.width;
-    let rows = table.count;
+    // A loop by hand: the row that it stops at is the answer, and with `step_by` that of an end would be reckoned a second time.
     let mut j = from;
-    while 4 <= rows - j {
-        if four_alike(area, start, w, pair, j) {
+    while 4 <= table.count - j {
+        if test.one_of_four(area, table, j) {
             return j;
         }
         j += 4;
@@ -106,149 +141,54 @@ pub fn skip_rows(area: &[i64], table: TableRows, pair: TwoWords, from: usize) ->
     j
 }
 
-// ---- one column
+// ---- what is looked at of a sought key
 
-// Whether word c is v in one of four rows from row j on.
-fn four_equal(area: &[i64], start: usize, w: usize, c: usize, v: i64, j: usize) -> bool
-    requires { (start + (j + 4) * w ≤ length area.now) × (c < w) }
-    ensures { result ≡ one_of_four (has_word c v) area.now start w j }
+// The word of column i, which is not folded.
+#[tactic(auto, unfolding(crate::specs::Skipped::word_of))]
+pub fn word_of(key: &SoughtKey, i: usize) -> Word
+    requires { (i < key.now.n) × SoughtIn 9 key.now }
+    ensures { result ≡ word_of key.now i }
 {
-    let p = start + j * w;
-    let first = has_word(area, p, w, c, v);
-    let second = has_word(area, p + w, w, c, v);
-    let third = has_word(area, p + w + w, w, c, v);
-    let fourth = has_word(area, p + w + w + w, w, c, v);
-    first | (second | (third | fourth))
-}
-
-// A row from row `from` on, below which none has the word, four rows at a time.
-pub fn skip_column(area: &[i64], table: TableRows, c: usize, v: i64, from: usize) -> usize
-    requires { Standing area.now table × ((from ≤ table.count) × (c < table.width)) }
-    ensures { Skipped (has_word c v) area.now table from result }
-{
-    let start = table.start;
-    let w = table.width;
-    let rows = table.count;
-    let mut i = from;
-    while 4 <= rows - i {
-        if four_equal(area, start, w, c, v, i) {
-            return i;
-        }
-        i += 4;
+    Word {
+        place: key.cs[i] + 1,
+        value: key.vs[i],
     }
-    i
-}
-
-// ---- folded columns
-
-// The word of column i of a sought key, under the bits that it is looked at by first.
-pub fn masked_word(key: SoughtKey, i: usize) -> MaskedWord
-    requires { (i < key.n) × SoughtIn 9 key }
-    ensures { result ≡ masked_word key i }
-{
-    let c = key.cs[i] + 1;
-    let m = folding::first_mask(numbers::bit_of(i, key.folded));
-    let v = folding::under_mask(key.vs[i], m);
-    MaskedWord { c: c, m: m, v: v }
 }
 
 // Those of its first two columns.
-pub fn masked_pair(key: SoughtKey) -> MaskedPair
-    requires { (2 ≤ key.n) × SoughtIn 9 key }
-    ensures { result ≡ masked_pair key }
+#[tactic(auto, unfolding(crate::specs::Skipped::first_words))]
+pub fn first_words(key: &SoughtKey) -> Both<Word, Word>
+    requires { (2 ≤ key.now.n) × SoughtIn 9 key.now }
+    ensures { result ≡ first_words key.now }
 {
-    let first = masked_word(key, 0);
-    let second = masked_word(key, 1);
-    MaskedPair {
-        first: first,
-        second: second,
+    Both {
+        first: word_of(key, 0),
+        second: word_of(key, 1),
     }
 }
 
-// Whether the row at p has a word under its mask.
-fn has_masked(area: &[i64], p: usize, w: usize, word: MaskedWord) -> bool
-    requires { (p + w ≤ length area.now) × (word.c < w) }
-    ensures { result ≡ has_masked word (row_in area.now p w) }
+// The word of column i, under the bits that it is looked at by first.
+#[tactic(auto, unfolding(crate::specs::Skipped::masked_word))]
+pub fn masked_word(key: &SoughtKey, i: usize) -> MaskedWord
+    requires { (i < key.now.n) × SoughtIn 9 key.now }
+    ensures { result ≡ masked_word key.now i }
 {
-    words::same_word(folding::under_mask(area[p + word.c], word.m), word.v)
+    let mask = folding::first_mask(numbers::bit_of(i, key.folded));
+    MaskedWord {
+        place: key.cs[i] + 1,
+        mask,
+        value: folding::under_mask(key.vs[i], mask),
+    }
 }
 
-// Whether one of four rows from row j on has a word under its mask.
-fn four_masked(area: &[i64], start: usize, w: usize, word: MaskedWord, j: usize) -> bool
-    requires { (start + (j + 4) * w ≤ length area.now) × (word.c < w) }
-    ensures { result ≡ one_of_four (has_masked word) area.now start w j }
+// Those of its first two columns. Apart from `first_words`: one function of the reader of a word is no shorter.
+#[tactic(auto, unfolding(crate::specs::Skipped::masked_pair))]
+pub fn masked_pair(key: &SoughtKey) -> Both<MaskedWord, MaskedWord>
+    requires { (2 ≤ key.now.n) × SoughtIn 9 key.now }
+    ensures { result ≡ masked_pair key.now }
 {
-    let p = start + j * w;
-    let one = has_masked(area, p, w, word);
-    let two = has_masked(area, p + w, w, word);
-    let three = has_masked(area, p + w + w, w, word);
-    let four = has_masked(area, p + w + w + w, w, word);
-    one | (two | (three | four))
-}
-
-// A row from row `from` on, below which none has the word under its mask, four rows at a time.
-pub fn skip_masked(area: &[i64], table: TableRows, word: MaskedWord, from: usize) -> usize
-    requires { Standing area.now table × ((from ≤ table.count) × (word.c < table.width)) }
-    ensures { Skipped (has_masked word) area.now table from result }
-{
-    let start = table.start;
-    let w = table.width;
-    let rows = table.count;
-    let mut k = from;
-    while 4 <= rows - k {
-        if four_masked(area, start, w, word, k) {
-            return k;
-        }
-        k += 4;
+    Both {
+        first: masked_word(key, 0),
+        second: masked_word(key, 1),
     }
-    k
-}
-
-// Whether the row at p has both words under their masks.
-pub fn is_near(area: &[i64], p: usize, w: usize, pair: MaskedPair) -> bool
-    requires { (p + w ≤ length area.now) × ((pair.first.c < w) × (pair.second.c < w)) }
-    ensures { result ≡ near pair (row_in area.now p w) }
-{
-    let first = pair.first;
-    if !has_masked(area, p, w, first) {
-        return false;
-    }
-    let second = pair.second;
-    has_masked(area, p, w, second)
-}
-
-// Whether one of four rows from row j on has both words under their masks.
-fn four_near(area: &[i64], start: usize, w: usize, pair: MaskedPair, j: usize) -> bool
-    requires { (start + (j + 4) * w ≤ length area.now) × ((pair.first.c < w) × (pair.second.c < w)) }
-    ensures { result ≡ one_of_four (near pair) area.now start w j }
-{
-    let p = start + j * w;
-    if is_near(area, p, w, pair) {
-        return true;
-    }
-    if is_near(area, p + w, w, pair) {
-        return true;
-    }
-    if is_near(area, p + w + w, w, pair) {
-        return true;
-    }
-    is_near(area, p + w + w + w, w, pair)
-}
-
-// A row from row `from` on, below which none has both words under their masks, four rows at a time.
-pub fn skip_far(area: &[i64], table: TableRows, pair: MaskedPair, from: usize) -> usize
-    requires { Standing area.now table × ((from ≤ table.count) × ((pair.first.c < table.width) × (pair.second.c < table.width))) }
-    ensures { Skipped (near pair) area.now table from result }
-{
-    let start = table.start;
-    let w = table.width;
-    let rows = table.count;
-    let mut r = from;
-    while 4 <= rows - r {
-        if four_near(area, start, w, pair, r) {
-            return r;
-        }
-        r += 4;
-    }
-    r
 }

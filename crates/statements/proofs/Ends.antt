@@ -12,10 +12,8 @@ use Rattle.schema.specs.Records.{Schema, table_of}
 use Rattle.schema.specs.Fields.{schema_of}
 use Rattle.schema.proofs.SchemaLaws.{accepted_valid}
 use Rattle.rules.specs.declared.Refusal.{Refusal}
-use Rattle.rules.specs.declared.Verdict.{Verdict}
-use Rattle.rules.specs.declared.Verdict.TheVariants.{Pass, Fail}
-use Rattle.rules.specs.declared.Answer.{Answer}
-use Rattle.rules.specs.declared.Answer.TheVariants.{Done, Refused}
+use Rattle.rules.specs.Refusals.{Verdict, Answer, did}
+use Rattle.std.specs.Prelude.{Ok, Err}
 use Rattle.rules.specs.Lists.{𝟘, sum, less, plus}
 use Rattle.rules.specs.Values.{nat_of}
 use Rattle.rules.specs.Rows.{Row}
@@ -52,22 +50,22 @@ pub undoable_same : {b : List ℕ} {n : ℕ} {a a' tally : List ℤ} {clean : Bo
 undoable_same {b} {n} {clean = clean} h z e = subst (λ l. Undoable b l × ((n ≤ length (work_of (schema_of b) l).used) × Spare clean (schema_of b) l)) (sym e) (h.undoable, (h.begun, z))
 
 module _ (s : Schema) (n : ℕ) (tally a : List ℤ) {v : Verdict} where
-  pub ended_fail : (c : Refusal) (a₁ a₂ : List ℤ) → Fail c ≡ v → a₁ ≡ a → Undone s n a₁ a₂ → Ended s v n tally (Refused c) a a₂
+  pub ended_fail : (c : Refusal) (a₁ a₂ : List ℤ) → Err c ≡ v → a₁ ≡ a → Undone s n a₁ a₂ → Ended s v n tally (Err c) a a₂
   unfolding Ended
-  ended_fail c a₁ a₂ v e u = subst (λ o. Ended s o n tally (Refused c) a a₂) v (refl, subst (λ l. Undone s n l a₂) e u)
+  ended_fail c a₁ a₂ v e u = subst (λ o. Ended s o n tally (Err c) a a₂) v (refl, subst (λ l. Undone s n l a₂) e u)
 
-  pub ended_pass : (m : ℕ) (net : ℤ) (a' : List ℤ) → Pass ≡ v → m ≡ length (work_of s a).used - n → net ≡ sum tally → Holds s a' (after_statement (work_of s a) (plus (view s a).kept tally) (view s a))
-      → Ended s v n tally (Done m net) a a'
+  pub ended_pass : (m : ℕ) (net : ℤ) (a' : List ℤ) → Ok tt ≡ v → m ≡ length (work_of s a).used - n → net ≡ sum tally → Holds s a' (after_statement (work_of s a) (plus (view s a).kept tally) (view s a))
+      → Ended s v n tally (did m net) a a'
   unfolding Ended
-  ended_pass m net a' v e d h = subst (λ o. Ended s o n tally (Done m net) a a') v (ap₂ Done e d, h)
+  ended_pass m net a' v e d h = subst (λ o. Ended s o n tally (did m net) a a') v (ap₂ did e d, h)
 
 -- ---- the whole statement
 
 -- the work that a row change left is undone by its records
 work_in_lem : (o : Verdict) (w : Work) → work_in (result_of o w) ≡ w
 unfolding work_in result_of
-work_in_lem Pass w = refl
-work_in_lem (Fail c) w = refl
+work_in_lem (Ok tt) w = refl
+work_in_lem (Err c) w = refl
 
 -- kept numbers and levels are those of the entry
 module _ {s : Schema} {a a₁ : List ℤ} (k : Keeps s a a₁) where
@@ -134,17 +132,17 @@ module _ (b : List ℕ) {a : List ℤ} (h : Sound b a) (body : Work → Result) 
   cleared_words {a₂} u = refused_words h.ready.fit e.1.keeps undoes (subst (λ m. Undone s m a₁ a₂) use_at u)
 
   -- a turn that is refused, put back
-  refused_turn : {a₂ : List ℤ} (c : Refusal) → Undone (schema_of b) n a₁ a₂ → {x : Turn} → x ≡ (Refused c, cleared (view (schema_of b) a)) → (Refused c, a₂) ≡ on_words x
-  refused_turn c u q = ap {B = Answer × List ℤ} (λ l. (Refused c, l)) (cleared_words u) ∙ sym (ap on_words q)
+  refused_turn : {a₂ : List ℤ} (c : Refusal) → Undone (schema_of b) n a₁ a₂ → {x : Turn} → x ≡ (Err c, cleared (view (schema_of b) a)) → (Err c, a₂) ≡ on_words x
+  refused_turn c u q = ap {B = Answer × List ℤ} (λ l. (Err c, l)) (cleared_words u) ∙ sym (ap on_words q)
 
   -- refused by a row change
-  refused_is : (c : Refusal) → o ≡ Fail c → (x : Answer) (a₂ : List ℤ) → Ended (schema_of b) (Fail c) n tally x a₁ a₂ → (x, a₂) ≡ on_words (statement (schema_of b) body (view (schema_of b) a))
+  refused_is : (c : Refusal) → o ≡ Err c → (x : Answer) (a₂ : List ℤ) → Ended (schema_of b) (Err c) n tally x a₁ a₂ → (x, a₂) ≡ on_words (statement (schema_of b) body (view (schema_of b) a))
   unfolding result_of work_of Ended
   refused_is c q x a₂ (d, u) =
       ap {B = Answer × List ℤ} (λ y. (y, a₂)) d ∙ refused_turn c u (statement_refused s c (work_of s a₁) (view s a) body (ap (λ o. result_of o (work_of s a₁)) (sym q) ∙ e.0))
 
   -- all row changes made
-  settled_is : o ≡ Pass → (x : Answer) (a₂ : List ℤ) → Ended (schema_of b) (settled (schema_of b) tally a₁) n tally x a₁ a₂ → (x, a₂) ≡ on_words (statement (schema_of b) body (view (schema_of b) a))
+  settled_is : o ≡ Ok tt → (x : Answer) (a₂ : List ℤ) → Ended (schema_of b) (settled (schema_of b) tally a₁) n tally x a₁ a₂ → (x, a₂) ≡ on_words (statement (schema_of b) body (view (schema_of b) a))
   unfolding result_of work_of Ended
   settled_is q x a₂ k = by (settled s tally a) refl (subst (λ v. Ended s v n tally x a₁ a₂) (settled_same e.1.keeps tally) k)
     where
@@ -155,10 +153,10 @@ module _ (b : List ℕ) {a : List ℤ} (h : Sound b a) (body : Work → Result) 
       move = movement_is (accepted_valid b h.ready.accepted) h.ready.fit e.1
 
       by : (v : Verdict) → settled s tally a ≡ v → Ended s v n tally x a₁ a₂ → (x, a₂) ≡ on_words (statement s body (view s a))
-      by Pass w (d, k) =
-          ap {B = Answer × List ℤ} (λ y. (y, a₂)) (d ∙ ap (λ m. Done (length (work_of s a₁).used - m) (sum tally)) use_at)
+      by (Ok tt) w (d, k) =
+          ap {B = Answer × List ℤ} (λ y. (y, a₂)) (d ∙ ap (λ m. did (length (work_of s a₁).used - m) (sum tally)) use_at)
           ∙ turn_words (record { fit = k.fit; is = k.is ∙ after_same e.1.keeps tally }) (statement_done s (work_of s a₁) tally (view s a) body goes move w)
-      by (Fail c) w (d, u) =
+      by (Err c) w (d, u) =
           ap {B = Answer × List ℤ} (λ y. (y, a₂)) d ∙ refused_turn c u (statement_unsettled s (work_of s a₁) tally (view s a) body goes move c w)
 
   pub statement_ended : (x : Answer) (a₂ : List ℤ) → Ended (schema_of b) (concluded o (settled (schema_of b) tally a₁)) n tally x a₁ a₂ → (x, a₂) ≡ on_words (statement (schema_of b) body (view (schema_of b) a))
@@ -166,5 +164,5 @@ module _ (b : List ℕ) {a : List ℤ} (h : Sound b a) (body : Work → Result) 
   statement_ended x a₂ k = by o refl k
     where
       by : (o' : Verdict) → o ≡ o' → Ended s (concluded o' (settled s tally a₁)) n tally x a₁ a₂ → (x, a₂) ≡ on_words (statement s body (view s a))
-      by Pass q k = settled_is q x a₂ k
-      by (Fail c) q k = refused_is c q x a₂ k
+      by (Ok tt) q k = settled_is q x a₂ k
+      by (Err c) q k = refused_is c q x a₂ k

@@ -10,8 +10,8 @@ use lib.ListN.{length}
 use Rattle.schema.specs.Records.{Schema, table_of}
 use Rattle.schema.specs.Fields.{schema_of}
 use Rattle.rules.specs.declared.Refusal.{Refusal}
-use Rattle.rules.specs.declared.Verdict.{Verdict}
-use Rattle.rules.specs.declared.Verdict.TheVariants.{Pass, Fail}
+use Rattle.rules.specs.Refusals.{Verdict}
+use Rattle.std.specs.Prelude.{Ok, Err}
 use Rattle.rules.specs.Lists.{up_from}
 use Rattle.rules.specs.Rows.{Row, image}
 use Rattle.rules.specs.Book.{Work}
@@ -19,7 +19,7 @@ use Rattle.rules.specs.Change.{Result, go, given, in_turn, change}
 use Rattle.rules.specs.Found.{found_turn, rows_found}
 use Rattle.bridge.specs.Fit.{work_of}
 use Rattle.bridge.specs.Ready.{result_of}
-use Rattle.bridge.proofs.TurnLaws.{turns_start, turns_none, turns_past, turns_done, turns_refused}
+use Rattle.bridge.proofs.TurnLaws.{turns_start, turns_past, turns_done, turns_refused}
 use Rattle.moves.specs.Tally.{Follows}
 use Rattle.scans.specs.FirstFrom.{FirstFrom}
 use Rattle.found.specs.declared.Given.{Given}
@@ -39,10 +39,6 @@ module _ (s : Schema) (t : ℕ) (x : Seeking) (g : Given) where
   unfolding changes_by rows_found walk_from
   walk_start w e = turns_start turn (table_of s t).rows w e
 
-  pub walk_end : (n j : ℕ) (w : Work) → n ≤ j → walk_from n j w ≡ result_of Pass w
-  unfolding walk_from
-  walk_end = turns_none turn
-
   turn_idle : (i : ℕ) (w : Work) → found_at x t w.tabs i ≡ false → turn i w ≡ go w
   unfolding found_turn given found_at
   turn_idle i w e = rw e refl
@@ -54,7 +50,7 @@ module _ (s : Schema) (t : ℕ) (x : Seeking) (g : Given) where
 
   -- row i is the next that is found
   module _ (n j i : ℕ) (w : Work) (en : n ≡ (table_of s t).rows) (f : FirstFrom (found_at x t w.tabs) (table_of s t).rows j i) where
-    pub walk_past : n ≤ i → walk_from n j w ≡ result_of Pass w
+    pub walk_past : n ≤ i → walk_from n j w ≡ result_of (Ok tt) w
     unfolding walk_from
     walk_past p = turns_past turn n j i w f.low (omega (arith, f.high, en)) (λ m a b. turn_idle m w (f.skipped m a b)) p
 
@@ -62,11 +58,11 @@ module _ (s : Schema) (t : ℕ) (x : Seeking) (g : Given) where
       turn_is : turn i w ≡ result_of o v
       turn_is = turn_met i w (f.found (omega (arith, l, en))) ∙ ap (λ (z : Row). change 16 s t i z w) (sym ey) ∙ sym e
 
-      pub walk_done : o ≡ Pass → walk_from n j w ≡ walk_from n (i + 1) v
+      pub walk_done : o ≡ Ok tt → walk_from n j w ≡ walk_from n (i + 1) v
       unfolding walk_from
       walk_done = turns_done turn n j i w f.low (omega (arith, f.high, en)) (λ m a b. turn_idle m w (f.skipped m a b)) l o v turn_is
 
-      pub walk_refused : {c : Refusal} → o ≡ Fail c → walk_from n j w ≡ result_of (Fail c) v
+      pub walk_refused : {c : Refusal} → o ≡ Err c → walk_from n j w ≡ result_of (Err c) v
       unfolding walk_from
       walk_refused = turns_refused turn n j i w f.low (omega (arith, f.high, en)) (λ m a b. turn_idle m w (f.skipped m a b)) l o v turn_is
 

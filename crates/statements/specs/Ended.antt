@@ -1,12 +1,9 @@
 -- A statement's end: what its functions require, and what they leave.
 -- Assumes nothing.
-use Rattle.std.specs.Prelude.{◌≡◌, List, ℕ, ◌-◌, ◌≤◌, ℤ, length}
+use Rattle.std.specs.Prelude.{◌≡◌, List, ℕ, ◌-◌, ◌≤◌, ℤ, length, Ok, Err}
 use Rattle.schema.specs.Records.{Schema}
 use Rattle.schema.specs.Fields.{schema_of}
-use Rattle.rules.specs.declared.Verdict.{Verdict}
-use Rattle.rules.specs.declared.Verdict.TheVariants.{Pass, Fail}
-use Rattle.rules.specs.declared.Answer.{Answer}
-use Rattle.rules.specs.declared.Answer.TheVariants.{Done, Refused}
+use Rattle.rules.specs.Refusals.{Verdict, Answer, did}
 use Rattle.rules.specs.Lists.{sum, plus}
 use Rattle.rules.specs.Statement.{after_statement}
 use Rattle.rules.specs.Area.{view}
@@ -17,8 +14,8 @@ use Rattle.settlement.specs.Settled.{Settling}
 
 -- the verdict on a statement: on its row changes, then on what is settled
 unfoldable pub concluded : Verdict → Verdict → Verdict
-concluded Pass v = v
-concluded (Fail c) v = Fail c
+concluded (Ok tt) v = v
+concluded (Err c) v = Err c
 
 -- what the end of a statement requires that began at the use n
 pub record Ending (b : List ℕ) (a tally : List ℤ) (n : ℕ) : Type 0 where
@@ -28,6 +25,6 @@ pub record Ending (b : List ℕ) (a tally : List ℤ) (n : ℕ) : Type 0 where
 
 -- a statement ended by a verdict: its answer and its area, put back where it is refused
 unfoldable pub Ended : Schema → Verdict → ℕ → List ℤ → Answer → List ℤ → List ℤ → Type 0
-Ended s Pass n tally x a a' =
-    (x ≡ Done (length (work_of s a).used - n) (sum tally)) × Holds s a' (after_statement (work_of s a) (plus (view s a).kept tally) (view s a))
-Ended s (Fail c) n tally x a a' = (x ≡ Refused c) × Undone s n a a'
+Ended s (Ok tt) n tally x a a' =
+    (x ≡ did (length (work_of s a).used - n) (sum tally)) × Holds s a' (after_statement (work_of s a) (plus (view s a).kept tally) (view s a))
+Ended s (Err c) n tally x a a' = (x ≡ Err c) × Undone s n a a'

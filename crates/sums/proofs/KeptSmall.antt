@@ -4,6 +4,7 @@ use mathlib.Core.Bool.{true, false≢true}
 use mathlib.Core.List.{List, [], ◌∷◌}
 use Prim.Native.Nat.{ℕ, zero, suc, ◌+◌, ◌≤◌}
 use native.Mathlib.Omega.{arith}
+use Rattle.std.proofs.lemmas.Int.{ints}
 use lib.Dec.{leb→le}
 use lib.IntN.{ℤ, pos, negsuc, nat_abs, ◌-ℤ◌}
 use lib.ListN.{length, get_or, take, drop}
@@ -19,7 +20,6 @@ use Rattle.bridge.proofs.Tests.{holds, all_head, all_tail}
 use Rattle.bridge.proofs.CountBounds.{kept_limited}
 use Rattle.bridge.proofs.SoundLaws.{parts}
 use Rattle.sums.specs.Small.{Small}
-use Rattle.sums.proofs.Magnitudes.{abs_less, abs_between}
 use Rattle.sums.proofs.SumLaws.{get_less}
 
 -- numbers from 0 to 1,024, and their differences
@@ -37,7 +37,7 @@ range_small (negsuc n) h = absurd (false≢true h)
 
 range_between : (x y : ℤ) → in_range 1024 x ≡ true → in_range 1024 y ≡ true → nat_abs (x -ℤ y) ≤ 1024
 unfolding in_range
-range_between (pos a) (pos b) h k = abs_between a b 1024 (leb→le a 1024 (holds h)) (leb→le b 1024 (holds k))
+range_between (pos a) (pos b) h k = let p = leb→le a 1024 (holds h) in let q = leb→le b 1024 (holds k) in omega (arith, ints)
 range_between (pos a) (negsuc b) h k = absurd (false≢true k)
 range_between (negsuc a) y h k = absurd (false≢true h)
 
@@ -62,4 +62,4 @@ small_more l h = record { small = λ k. let b = h.small k in omega arith }
 -- bounds add up
 pub less_small : {m n o : ℕ} (x y : List ℤ) → length y ≡ length x → Small m x → Small n y → m + n ≤ o → Small o (less x y)
 less_small x y l h k le =
-    record { small = λ i. let b = abs_less (get_or x i 𝟘) (get_or y i 𝟘) in let p = h.small i in let q = k.small i in rw (get_less x y i l) (omega arith) }
+    record { small = λ i. let p = h.small i in let q = k.small i in rw (get_less x y i l) (omega (arith, ints)) }

@@ -12,6 +12,7 @@ ghost use Rattle.sums.specs.Small.{Small};
 ghost use Rattle.moves.specs.Tally.{Follows, TalliedAt};
 ghost use Rattle.table_keys.specs.Touched.{KeysOf};
 
+use fields::Schema;
 use table_keys::TableKeys;
 
 // A tally less the counts that are taken, plus those that are added.
@@ -19,14 +20,13 @@ fn moved(tally: [i64; 32], taken: [i64; 32], added: [i64; 32]) -> [i64; 32]
     requires { Small 2048 tally × (Small 2048 taken × Small 2048 added) }
     ensures { result ≡ plus (less tally taken) added }
 {
-    let rest = sums::less_of(tally, taken);
-    sums::plus_of(rest, added)
+    sums::plus_of(sums::less_of(tally, taken), added)
 }
 
 // Gives row r of table t a new image, its old words going to the journal, and the tally follows; answers the old image.
 // `keys` has the foreign keys that touch the table.
 pub fn write_tallied(
-    schema: &[u8],
+    schema: &Schema,
     area: &mut [i64],
     tally: &mut [i64; 32],
     keys: TableKeys,
@@ -34,11 +34,11 @@ pub fn write_tallied(
     r: usize,
     image: [i64; 9],
 ) -> [i64; 9]
-    requires { TalliedAt schema.now tally.old area.old t r × (KeysOf schema.now t keys × (0 < length (work_of (schema_of schema.now) area.old).spare)) }
-    ensures { (result ≡ Rows.image t r (work_of (schema_of schema.now) area.old).tabs) × ((work_of (schema_of schema.now) area.new ≡ write t r image (work_of (schema_of schema.now) area.old)) × Follows (schema_of schema.now) tally.old area.old tally.new area.new) }
+    requires { TalliedAt schema.now.bytes tally.old area.old t r × (KeysOf schema.now.bytes t keys × (0 < length (work_of (schema_of schema.now.bytes) area.old).spare)) }
+    ensures { (result ≡ Rows.image t r (work_of (schema_of schema.now.bytes) area.old).tabs) × ((work_of (schema_of schema.now.bytes) area.new ≡ write t r image (work_of (schema_of schema.now.bytes) area.old)) × Follows (schema_of schema.now.bytes) tally.old area.old tally.new area.new) }
 {
     let old = area::image_of(schema, area, t, r);
-    let width = fields::columns(schema, t) + 1;
+    let width = schema.columns(t) + 1;
     let new = words::image_at(&image[0..9], 0, width);
     let before = row_orphans::row_counts(schema, area, keys, t, r, old, new);
     area::write_row(schema, area, t, r, image);

@@ -17,7 +17,7 @@ use Rattle.schema.proofs.FieldLaws.{room_few}
 use Rattle.schema.proofs.SchemaLaws.{accepted_valid}
 use Rattle.sums.specs.Small.{Small}
 use Rattle.sums.proofs.KeptSmall.{kept_small}
-use Rattle.rules.specs.declared.Answer.TheVariants.{Done}
+use Rattle.rules.specs.Refusals.{did}
 use Rattle.rules.specs.Lists.{𝟘, sum, less}
 use Rattle.rules.specs.Values.{nat_of}
 use Rattle.rules.specs.Book.{Level, Book, with_work, emptied, undo_to, push, close, back, ended, first_kept, abort}
@@ -228,14 +228,14 @@ module _ {s : Schema} {a : List ℤ} (f : Fit s a) (i n base : ℕ) (at : i + n 
 
   -- the answer
   pub back_answer : (used : ℕ) (net : ℤ) → used ≡ length (view s a).work.used → base ≤ used → net ≡ sum (less (take 32 (drop (37 + i * 33) a)) (take 32 (drop 4 a)))
-      → rolled (back n (view s a)) (view s a) ≡ (Done (used - base) net, back n (view s a))
+      → rolled (back n (view s a)) (view s a) ≡ (did (used - base) net, back n (view s a))
   unfolding rolled close
   back_answer used net eu le en =
       let p : back n b ≡ with_kept l.kept (close n (with_work (undo_to l.base b.work) b)) = back_parts n b l _ level_is in
       let u : length (back n b).work.used ≡ base
       = ap (λ (c : Book). length c.work.used) p ∙ ap (λ m. length (undo_to m b.work).used) (sym eb) ∙ to_length base b.work (omega arith) in
       let k : (back n b).kept ≡ l.kept = ap (λ (c : Book). c.kept) p in
-      ap₂ {C = Turn} (λ m z. (Done m z, back n b)) (ap₂ ◌-◌ (sym eu) u) (ap (λ x. sum (less x b.kept)) k ∙ ap (λ x. sum (less l.kept x)) (kept_at s a) ∙ sym en)
+      ap₂ {C = Turn} (λ m z. (did m z, back n b)) (ap₂ ◌-◌ (sym eu) u) (ap (λ x. sum (less x b.kept)) k ∙ ap (λ x. sum (less l.kept x)) (kept_at s a) ∙ sym en)
 
 -- ---- a rollback of the transaction
 
@@ -266,8 +266,8 @@ module _ {s : Schema} {a : List ℤ} (f : Fit s a) (some : 0 < length (view s a)
           }
 
   pub abort_answer : (used : ℕ) (net : ℤ) → used ≡ length (view s a).work.used → net ≡ sum (less (take 32 (drop 37 a)) (take 32 (drop 4 a)))
-      → rolled (abort (view s a)) (view s a) ≡ (Done used net, abort (view s a))
+      → rolled (abort (view s a)) (view s a) ≡ (did used net, abort (view s a))
   unfolding rolled abort ended emptied
   abort_answer used net eu en =
       let z : length (view s a).work.used - 0 ≡ used = omega arith in
-      ap₂ {C = Turn} (λ m z. (Done m z, abort (view s a))) z (ap (λ x. sum (less x (view s a).kept)) (first_kept_lem f some (view s a).kept) ∙ ap (λ x. sum (less (take 32 (drop 37 a)) x)) (kept_at s a) ∙ sym en)
+      ap₂ {C = Turn} (λ m z. (did m z, abort (view s a))) z (ap (λ x. sum (less x (view s a).kept)) (first_kept_lem f some (view s a).kept) ∙ ap (λ x. sum (less (take 32 (drop 37 a)) x)) (kept_at s a) ∙ sym en)

@@ -12,7 +12,8 @@ use lib.ListN.{length, get_or, drop}
 use lib.Seq.{drop-length}
 use Rattle.schema.specs.Records.{Schema}
 use Rattle.rules.specs.declared.Refusal.TheVariants.{LevelState, LevelsFull, CommitWithOrphans}
-use Rattle.rules.specs.declared.Answer.TheVariants.{Done, Refused}
+use Rattle.rules.specs.Refusals.{did}
+use Rattle.std.specs.Prelude.{Err}
 use Rattle.rules.specs.Lists.{𝟘}
 use Rattle.rules.specs.Values.{all_zero}
 use Rattle.rules.specs.Book.{Level, Book, with_work, emptied, push, close, back, ended, abort, zero_levels}
@@ -40,27 +41,27 @@ none [] h = refl
 none (x ∷ xs) h = absurd (omega arith)
 
 module _ (s : Schema) (b : Book) where
-  opens : (o : ℕ) → 0 < length b.closed → opened o b.closed b ≡ (Done 0 𝟘, push o (drop 1 b.closed) b)
+  opens : (o : ℕ) → 0 < length b.closed → opened o b.closed b ≡ (did 0 𝟘, push o (drop 1 b.closed) b)
   unfolding opened
   opens o h = ap (λ c. opened o c b) (first b.closed h)
 
-  pub begin_inside : 0 < length b.levels → act s begin b ≡ (Refused LevelState, b)
+  pub begin_inside : 0 < length b.levels → act s begin b ≡ (Err LevelState, b)
   unfolding act check
   begin_inside h = rw (inside b.levels h) refl
 
-  pub begin_opens : length b.levels ≡ 0 → 0 < length b.closed → act s begin b ≡ (Done 0 𝟘, push 1 (drop 1 b.closed) b)
+  pub begin_opens : length b.levels ≡ 0 → 0 < length b.closed → act s begin b ≡ (did 0 𝟘, push 1 (drop 1 b.closed) b)
   unfolding act check
   begin_opens h k = rw (outside b.levels h) (opens 1 k)
 
-  pub savepoint_full : length b.closed ≡ 0 → act s savepoint b ≡ (Refused LevelsFull, b)
+  pub savepoint_full : length b.closed ≡ 0 → act s savepoint b ≡ (Err LevelsFull, b)
   unfolding act opened
   savepoint_full h = ap (λ c. opened (opener_of (in_transaction b.levels) b.opener) c b) (none b.closed h)
 
-  pub savepoint_opens : (o : ℕ) → o ≡ opener_of (in_transaction b.levels) b.opener → 0 < length b.closed → act s savepoint b ≡ (Done 0 𝟘, push o (drop 1 b.closed) b)
+  pub savepoint_opens : (o : ℕ) → o ≡ opener_of (in_transaction b.levels) b.opener → 0 < length b.closed → act s savepoint b ≡ (did 0 𝟘, push o (drop 1 b.closed) b)
   unfolding act
   savepoint_opens o e h = rw e (opens _ h)
 
-  pub commit_outside : length b.levels ≡ 0 → act s commit b ≡ (Refused LevelState, b)
+  pub commit_outside : length b.levels ≡ 0 → act s commit b ≡ (Err LevelState, b)
   unfolding act check
   commit_outside h = rw (outside b.levels h) refl
 
@@ -68,15 +69,15 @@ module _ (s : Schema) (b : Book) where
   unfolding act check
   commit_inside h = rw (inside b.levels h) refl
 
-  pub commit_refused : all_zero b.kept ≡ false → committed b ≡ (Refused CommitWithOrphans, b)
+  pub commit_refused : all_zero b.kept ≡ false → committed b ≡ (Err CommitWithOrphans, b)
   unfolding committed check
   commit_refused e = rw e refl
 
-  pub commit_ends : all_zero b.kept ≡ true → committed b ≡ (Done 0 𝟘, ended b.kept b.work b)
+  pub commit_ends : all_zero b.kept ≡ true → committed b ≡ (did 0 𝟘, ended b.kept b.work b)
   unfolding committed check
   commit_ends e = rw e refl
 
-  pub release_refused : (a : ℕ) → level_open b a ≡ false → act s (release a) b ≡ (Refused LevelState, b)
+  pub release_refused : (a : ℕ) → level_open b a ≡ false → act s (release a) b ≡ (Err LevelState, b)
   unfolding act check
   release_refused a e = rw e refl
 
@@ -84,11 +85,11 @@ module _ (s : Schema) (b : Book) where
   unfolding act check released
   release_first a e q = rw (e, q) refl
 
-  pub release_closes : (a : ℕ) → level_open b a ≡ true → eqb a 1 ≡ false → act s (release a) b ≡ (Done 0 𝟘, close (suc (length b.levels) - a) b)
+  pub release_closes : (a : ℕ) → level_open b a ≡ true → eqb a 1 ≡ false → act s (release a) b ≡ (did 0 𝟘, close (suc (length b.levels) - a) b)
   unfolding act check released
   release_closes a e q = rw (e, q) refl
 
-  pub back_refused : (a : ℕ) → level_open b a ≡ false → act s (rollback_to a) b ≡ (Refused LevelState, b)
+  pub back_refused : (a : ℕ) → level_open b a ≡ false → act s (rollback_to a) b ≡ (Err LevelState, b)
   unfolding act check
   back_refused a e = rw e refl
 
@@ -96,7 +97,7 @@ module _ (s : Schema) (b : Book) where
   unfolding act check
   back_rolls a e = rw e refl
 
-  pub rollback_outside : length b.levels ≡ 0 → act s rollback b ≡ (Refused LevelState, b)
+  pub rollback_outside : length b.levels ≡ 0 → act s rollback b ≡ (Err LevelState, b)
   unfolding act check
   rollback_outside h = rw (outside b.levels h) refl
 

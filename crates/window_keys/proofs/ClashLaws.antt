@@ -9,11 +9,10 @@ use borrow.Author.Tests.{eq-eqb, ne_eqb}
 use lib.Dec.{eqb}
 use lib.ListN.{length, get_or}
 use lib.Signed.{le_z}
-use Rattle.schema.specs.declared.SchemaAnswer.TheVariants.{Accepted}
+use Rattle.schema.specs.Check.{Accepted, check_schema}
 use Rattle.schema.specs.Bytes.{bit}
 use Rattle.schema.specs.Records.{Window, ForeignKey, no_key, parent_key, table_of, key_of}
 use Rattle.schema.specs.Fields.{schema_of}
-use Rattle.schema.specs.Check.{check_schema}
 use Rattle.schema.proofs.RangeLaws.{and_left, and_right}
 use Rattle.schema.proofs.MaskLaws.{bit_none}
 use Rattle.schema.proofs.FieldLaws.{read_windows}

@@ -2,7 +2,7 @@
 
 #![tactic(auto)]
 
-ghost use Rattle.std.specs.Prelude.{◌≡◌, true, not, ◌&&◌, [], suc, ◌≤◌, ◌<◌, length, get_or};
+ghost use Rattle.std.specs.Prelude.{◌≡◌, true, not, ◌&&◌, [], suc, ◌≤◌, ◌<◌, length, get_or, take};
 ghost use Rattle.schema.specs.Records.{child_key, parent_key, table_of, key_of};
 ghost use Rattle.schema.specs.Fields.{schema_of};
 ghost use Rattle.rules.specs.Lists;
@@ -12,20 +12,22 @@ ghost use Rattle.bridge.specs.Fit.{work_of};
 ghost use Rattle.bridge.specs.Ready.{Ready, Placed};
 ghost use Rattle.moves.specs.Movement.{stranded_rows};
 ghost use Rattle.rows.specs.Standing.{Standing, RowsOf, rows_in};
+ghost use Rattle.rows.specs.Sought.{SoughtOf};
 ghost use Rattle.table_keys.specs.Touched.{WindowKeys};
-ghost use Rattle.windows.specs.WindowKey.{window_of, WindowedKey, WindowColumns};
+ghost use Rattle.windows.specs.WindowKey.{window_of, WindowedKey, WindowColumns, WindowIn, parent_days};
 ghost use Rattle.window_keys.specs.Left.{left_by};
 
+use fields::Schema;
 use rows::TableRows;
 use schema::Match;
-use windows::WindowKey;
+use windows::{Sought, WindowKey};
 
 // ---- 24
 
 // Whether the window of a row of table t other than row r clashes with that of an image, which has no NULL in its parent key.
 // Table t is the parent of foreign key k.
 fn has_clash(
-    schema: &[u8],
+    schema: &Schema,
     area: &[i64],
     k: usize,
     t: usize,
@@ -33,23 +35,25 @@ fn has_clash(
     image: [i64; 9],
     key: WindowKey,
 ) -> bool
-    requires { (Placed schema.now area.now t r × WindowColumns schema.now k key) × (((key_of (schema_of schema.now) k).parent ≡ t) × (Keys.full_key (parent_key (key_of (schema_of schema.now) k)) image ≡ true)) }
-    ensures { result ≡ Lists.any (Change.clashes (key_of (schema_of schema.now) k) image (window_of key)) (Lists.except r (get_or (work_of (schema_of schema.now) area.now).tabs t [])) }
+    requires { (Placed schema.now.bytes area.now t r × WindowColumns schema.now.bytes k key) × (((key_of (schema_of schema.now.bytes) k).parent ≡ t) × (Keys.full_key (parent_key (key_of (schema_of schema.now.bytes) k)) image ≡ true)) }
+    ensures { result ≡ Lists.any (Change.clashes (key_of (schema_of schema.now.bytes) k) image (window_of key)) (Lists.except r (get_or (work_of (schema_of schema.now.bytes) area.now).tabs t [])) }
 {
     let parents = rows::rows_of(schema, t);
     let pairs = key.pairs;
     let ps = pairs.ps;
-    let sought = rows::sought_key(image, pairs.folded, pairs.n, ps, ps);
-    let days = windows::clash_days(image, key);
-    windows::other_on(area, parents, r, sought, days)
+    let sought = Sought {
+        key: rows::sought_key(image, pairs.folded, pairs.n, ps, ps),
+        days: windows::clash_days(image, key),
+    };
+    windows::other_on(area, parents, r, sought)
 }
 
 // Whether an image for row r of table t breaks 24 by foreign key k, which is not broken and has a window.
-fn bad_window(schema: &[u8], area: &[i64], k: usize, t: usize, r: usize, image: [i64; 9]) -> bool
-    requires { Placed schema.now area.now t r × WindowedKey schema.now k }
-    ensures { result ≡ Change.bad_window t r image (get_or (work_of (schema_of schema.now) area.now).tabs t []) (key_of (schema_of schema.now) k) }
+fn bad_window(schema: &Schema, area: &[i64], k: usize, t: usize, r: usize, image: [i64; 9]) -> bool
+    requires { Placed schema.now.bytes area.now t r × WindowedKey schema.now.bytes k }
+    ensures { result ≡ Change.bad_window t r image (get_or (work_of (schema_of schema.now.bytes) area.now).tabs t []) (key_of (schema_of schema.now.bytes) k) }
 {
-    if fields::parent(schema, k) != t {
+    if schema.parent(k) != t {
         return false;
     }
     let key = windows::window_key(schema, k);
@@ -64,7 +68,7 @@ fn bad_window(schema: &[u8], area: &[i64], k: usize, t: usize, r: usize, image: 
 
 // The same, where foreign key k is one of those with a window.
 fn key_bad_window(
-    schema: &[u8],
+    schema: &Schema,
     area: &[i64],
     windowed: usize,
     k: usize,
@@ -72,8 +76,8 @@ fn key_bad_window(
     r: usize,
     image: [i64; 9],
 ) -> bool
-    requires { Placed schema.now area.now t r × (WindowKeys schema.now t windowed × (k < length (schema_of schema.now).keys)) }
-    ensures { result ≡ Change.bad_window t r image (get_or (work_of (schema_of schema.now) area.now).tabs t []) (key_of (schema_of schema.now) k) }
+    requires { Placed schema.now.bytes area.now t r × (WindowKeys schema.now.bytes t windowed × (k < length (schema_of schema.now.bytes).keys)) }
+    ensures { result ≡ Change.bad_window t r image (get_or (work_of (schema_of schema.now.bytes) area.now).tabs t []) (key_of (schema_of schema.now.bytes) k) }
 {
     if !numbers::bit_of(k, windowed) {
         return false;
@@ -83,58 +87,60 @@ fn key_bad_window(
 
 // Whether an image for row r of table t breaks 24. `windowed` has the keys with a window that touch the table.
 pub fn windows_broken(
-    schema: &[u8],
+    schema: &Schema,
     area: &[i64],
     windowed: usize,
     t: usize,
     r: usize,
     image: [i64; 9],
 ) -> bool
-    requires { Placed schema.now area.now t r × WindowKeys schema.now t windowed }
-    ensures { result ≡ Lists.any (Change.bad_window t r image (get_or (work_of (schema_of schema.now) area.now).tabs t [])) (schema_of schema.now).keys }
+    requires { Placed schema.now.bytes area.now t r × WindowKeys schema.now.bytes t windowed }
+    ensures { result ≡ Lists.any (Change.bad_window t r image (get_or (work_of (schema_of schema.now.bytes) area.now).tabs t [])) (schema_of schema.now.bytes).keys }
 {
     if windowed == 0 {
         return false;
     }
-    let n = fields::key_count(schema);
-    let mut k = 0;
-    while k < n {
-        if key_bad_window(schema, area, windowed, k, t, r, image) {
-            return true;
-        }
-        k += 1;
-    }
-    false
+    (0..schema.key_count()).any(|k| key_bad_window(schema, area, windowed, k, t, r, image))
 }
 
 // ---- orphans
 
-// Whether one of foreign key k's parent rows serves a child row's image, which has no NULL in its key.
+// What parent rows are sought by, that serve a child row's image, which has no NULL in its key.
+fn serving(child: [i64; 9], key: WindowKey) -> Sought
+    requires { WindowIn key × (Keys.full_key (take key.pairs.n key.pairs.cs) child ≡ true) }
+    ensures { SoughtOf key.pairs.folded key.pairs.n key.pairs.ps key.pairs.cs child result.key × (result.days ≡ parent_days child key) }
+{
+    let pairs = key.pairs;
+    let cs = pairs.cs;
+    let ps = pairs.ps;
+    Sought {
+        key: rows::sought_key(child, pairs.folded, pairs.n, ps, cs),
+        days: windows::parent_days(child, key),
+    }
+}
+
+// Whether one of foreign key k's parent rows serves a child row's image, which has no NULL in its key. The search goes by days
+// too, so that a key without a window has its own in `constraints`.
 fn is_served(
-    schema: &[u8],
+    schema: &Schema,
     area: &[i64],
     k: usize,
     image: [i64; 9],
     parents: TableRows,
     key: WindowKey,
 ) -> bool
-    requires { (Ready schema.now area.now × WindowColumns schema.now k key) × (RowsOf schema.now (key_of (schema_of schema.now) k).parent parents × (Keys.full_key (child_key (key_of (schema_of schema.now) k)) image ≡ true)) }
-    ensures { result ≡ Lists.any (Keys.serves (key_of (schema_of schema.now) k) image) (get_or (work_of (schema_of schema.now) area.now).tabs (key_of (schema_of schema.now) k).parent []) }
+    requires { (Ready schema.now.bytes area.now × WindowColumns schema.now.bytes k key) × (RowsOf schema.now.bytes (key_of (schema_of schema.now.bytes) k).parent parents × (Keys.full_key (child_key (key_of (schema_of schema.now.bytes) k)) image ≡ true)) }
+    ensures { result ≡ Lists.any (Keys.serves (key_of (schema_of schema.now.bytes) k) image) (get_or (work_of (schema_of schema.now.bytes) area.now).tabs (key_of (schema_of schema.now.bytes) k).parent []) }
 {
-    let pairs = key.pairs;
-    let cs = pairs.cs;
-    let ps = pairs.ps;
-    let sought = rows::sought_key(image, pairs.folded, pairs.n, ps, cs);
-    let days = windows::parent_days(image, key);
-    windows::any_on(area, parents, sought, days)
+    windows::any_on(area, parents, serving(image, key))
 }
 
 // Whether an image has half of its key filled and foreign key k counts that as an orphan.
-fn is_half_due(schema: &[u8], k: usize, image: [i64; 9], key: WindowKey) -> bool
-    requires { WindowColumns schema.now k key }
-    ensures { result ≡ Keys.half_due (key_of (schema_of schema.now) k).match (child_key (key_of (schema_of schema.now) k)) image }
+fn is_half_due(schema: &Schema, k: usize, image: [i64; 9], key: WindowKey) -> bool
+    requires { WindowColumns schema.now.bytes k key }
+    ensures { result ≡ Keys.half_due (key_of (schema_of schema.now.bytes) k).match (child_key (key_of (schema_of schema.now.bytes) k)) image }
 {
-    match fields::key_match(schema, k) {
+    match schema.key_match(k) {
         Match::Simple => false,
         Match::Full => windows::half_child(image, key),
     }
@@ -142,15 +148,15 @@ fn is_half_due(schema: &[u8], k: usize, image: [i64; 9], key: WindowKey) -> bool
 
 // Whether the image of a child row of foreign key k, of which the parent rows and the columns are given, is that of an orphan.
 pub fn is_orphan(
-    schema: &[u8],
+    schema: &Schema,
     area: &[i64],
     k: usize,
     image: [i64; 9],
     parents: TableRows,
     key: WindowKey,
 ) -> bool
-    requires { (Ready schema.now area.now × WindowColumns schema.now k key) × RowsOf schema.now (key_of (schema_of schema.now) k).parent parents }
-    ensures { result ≡ Keys.orphan (key_of (schema_of schema.now) k) (get_or (work_of (schema_of schema.now) area.now).tabs (key_of (schema_of schema.now) k).parent []) image }
+    requires { (Ready schema.now.bytes area.now × WindowColumns schema.now.bytes k key) × RowsOf schema.now.bytes (key_of (schema_of schema.now.bytes) k).parent parents }
+    ensures { result ≡ Keys.orphan (key_of (schema_of schema.now.bytes) k) (get_or (work_of (schema_of schema.now.bytes) area.now).tabs (key_of (schema_of schema.now.bytes) k).parent []) image }
 {
     if !windows::full_child(image, key) {
         return is_half_due(schema, k, image, key);
@@ -160,75 +166,75 @@ pub fn is_orphan(
 
 // ---- child rows left behind
 
-// Whether a child row has no parent row when row r of the parent rows has image y: neither y nor another row serves it. Where no
-// other row's window clashes with the one that row r had, none is looked for.
+// Row r of a foreign key's parent rows turns from image `old` to image `new`. Where no other row's window clashes with the one
+// that it had, the others are clear: none of them serves a child row that it served.
+#[derive(Clone, Copy)]
+struct Turn {
+    parents: TableRows,
+    r: usize,
+    clear: bool,
+    old: [i64; 9],
+    new: [i64; 9],
+}
+
+// Whether a child row has no parent row then: neither the new image nor another row serves it, of which none is asked where they
+// are clear.
 fn is_left(
-    schema: &[u8],
+    schema: &Schema,
     area: &[i64],
     k: usize,
     child: [i64; 9],
-    parents: TableRows,
-    r: usize,
-    clear: bool,
-    y: [i64; 9],
+    turn: Turn,
     key: WindowKey,
 ) -> bool
-    requires { (Ready schema.now area.now × WindowColumns schema.now k key) × ((RowsOf schema.now (key_of (schema_of schema.now) k).parent parents × (r < parents.count)) × (Keys.full_key (child_key (key_of (schema_of schema.now) k)) child ≡ true)) }
-    ensures { result ≡ left_by clear (key_of (schema_of schema.now) k) y (Lists.except r (get_or (work_of (schema_of schema.now) area.now).tabs (key_of (schema_of schema.now) k).parent [])) child }
+    requires { (Ready schema.now.bytes area.now × WindowColumns schema.now.bytes k key) × ((RowsOf schema.now.bytes (key_of (schema_of schema.now.bytes) k).parent turn.parents × (turn.r < turn.parents.count)) × (Keys.full_key (child_key (key_of (schema_of schema.now.bytes) k)) child ≡ true)) }
+    ensures { result ≡ left_by turn.clear (key_of (schema_of schema.now.bytes) k) turn.new (Lists.except turn.r (get_or (work_of (schema_of schema.now.bytes) area.now).tabs (key_of (schema_of schema.now.bytes) k).parent [])) child }
 {
-    if windows::serves(child, y, key) {
+    if windows::serves(child, turn.new, key) {
         return false;
     }
-    if clear {
+    if turn.clear {
         return true;
     }
-    let pairs = key.pairs;
-    let cs = pairs.cs;
-    let ps = pairs.ps;
-    let sought = rows::sought_key(child, pairs.folded, pairs.n, ps, cs);
-    let days = windows::parent_days(child, key);
-    !windows::other_on(area, parents, r, sought, days)
+    !windows::other_on(area, turn.parents, turn.r, serving(child, key))
 }
 
-// How many of some child rows map to row r of the parent rows when that has image x, and have no parent row when it has y.
+// How many of some child rows map to the old image and are left then.
 fn count_left(
-    schema: &[u8],
+    schema: &Schema,
     area: &[i64],
     k: usize,
     children: TableRows,
-    parents: TableRows,
-    r: usize,
-    clear: bool,
-    x: [i64; 9],
-    y: [i64; 9],
+    turn: Turn,
     key: WindowKey,
 ) -> usize
-    requires { (Ready schema.now area.now × WindowColumns schema.now k key) × (((Standing area.now children × (children.width ≡ suc (table_of (schema_of schema.now) (key_of (schema_of schema.now) k).child).columns)) × (RowsOf schema.now (key_of (schema_of schema.now) k).parent parents × (r < parents.count))) × (Keys.full_key (parent_key (key_of (schema_of schema.now) k)) x ≡ true)) }
-    ensures { (result ≡ Lists.count (λ c. Keys.takes (key_of (schema_of schema.now) k) x c && left_by clear (key_of (schema_of schema.now) k) y (Lists.except r (get_or (work_of (schema_of schema.now) area.now).tabs (key_of (schema_of schema.now) k).parent [])) c) (rows_in area.now children)) × (result ≤ children.count) }
+    requires { (Ready schema.now.bytes area.now × WindowColumns schema.now.bytes k key) × (((Standing area.now children × (children.width ≡ suc (table_of (schema_of schema.now.bytes) (key_of (schema_of schema.now.bytes) k).child).columns)) × (RowsOf schema.now.bytes (key_of (schema_of schema.now.bytes) k).parent turn.parents × (turn.r < turn.parents.count))) × (Keys.full_key (parent_key (key_of (schema_of schema.now.bytes) k)) turn.old ≡ true)) }
+    ensures { (result ≡ Lists.count (λ c. Keys.takes (key_of (schema_of schema.now.bytes) k) turn.old c && left_by turn.clear (key_of (schema_of schema.now.bytes) k) turn.new (Lists.except turn.r (get_or (work_of (schema_of schema.now.bytes) area.now).tabs (key_of (schema_of schema.now.bytes) k).parent [])) c) (rows_in area.now children)) × (result ≤ children.count) }
 {
-    let start = children.start;
-    let w = children.width;
-    let n = children.count;
     let pairs = key.pairs;
     let cs = pairs.cs;
     let ps = pairs.ps;
-    let sought = rows::sought_key(x, pairs.folded, pairs.n, cs, ps);
-    let days = windows::left_days(x, y, key);
+    let sought = Sought {
+        key: rows::sought_key(turn.old, pairs.folded, pairs.n, cs, ps),
+        days: windows::left_days(turn.old, turn.new, key),
+    };
+    // A loop by hand: the search goes on from the row after the one found.
     let mut m = 0;
-    let mut j = windows::first_on(area, children, sought, days, 0);
-    while j < n {
-        let child = words::image_at(area, start + j * w, w);
-        if is_left(schema, area, k, child, parents, r, clear, y, key) {
+    let mut j = 0;
+    while let Some(i) = windows::first_on(area, children, sought, j) {
+        let p = children.start + i * children.width;
+        let child = words::image_at(area, p, children.width);
+        if is_left(schema, area, k, child, turn, key) {
             m += 1;
         }
-        j = windows::first_on(area, children, sought, days, j + 1);
+        j = i + 1;
     }
     m
 }
 
 // How many child rows of foreign key k, which fires, lose their parent row when row r of table t turns from image x to image y.
 pub fn left_rows(
-    schema: &[u8],
+    schema: &Schema,
     area: &[i64],
     k: usize,
     t: usize,
@@ -237,42 +243,55 @@ pub fn left_rows(
     y: [i64; 9],
     key: WindowKey,
 ) -> usize
-    requires { (Placed schema.now area.now t r × WindowColumns schema.now k key) × (((key_of (schema_of schema.now) k).parent ≡ t) × (Keys.fires y t x (key_of (schema_of schema.now) k) ≡ true)) }
-    ensures { (result ≡ stranded_rows (key_of (schema_of schema.now) k) t r x y (work_of (schema_of schema.now) area.now).tabs) × (result ≤ 1024) }
+    requires { (Placed schema.now.bytes area.now t r × WindowColumns schema.now.bytes k key) × (((key_of (schema_of schema.now.bytes) k).parent ≡ t) × (Keys.fires y t x (key_of (schema_of schema.now.bytes) k) ≡ true)) }
+    ensures { (result ≡ stranded_rows (key_of (schema_of schema.now.bytes) k) t r x y (work_of (schema_of schema.now.bytes) area.now).tabs) × (result ≤ 1024) }
 {
     if windows::keeps_days(x, y, key) {
         return 0;
     }
     let clear = !has_clash(schema, area, k, t, r, x, key);
-    let parents = rows::rows_of(schema, t);
-    let child = fields::child(schema, k);
+    let turn = Turn {
+        parents: rows::rows_of(schema, t),
+        r,
+        clear,
+        old: x,
+        new: y,
+    };
+    let child = schema.child(k);
     let children = rows::rows_of(schema, child);
     if child != t {
-        return count_left(schema, area, k, children, parents, r, clear, x, y, key);
+        return count_left(schema, area, k, children, turn, key);
     }
     let before = scans::rows_before(children, r);
-    let m = count_left(schema, area, k, before, parents, r, clear, x, y, key);
+    let m = count_left(schema, area, k, before, turn, key);
     let after = scans::rows_after(area, children, r);
-    m + count_left(schema, area, k, after, parents, r, clear, x, y, key)
+    m + count_left(schema, area, k, after, turn, key)
 }
 
 // Whether a child row of foreign key k maps to a parent row with image `old` and not to one with image `new`. The old one has no
 // NULL in its key.
 pub fn leaves_any(
-    schema: &[u8],
+    schema: &Schema,
     area: &[i64],
     k: usize,
     old: [i64; 9],
     new: [i64; 9],
     key: WindowKey,
 ) -> bool
-    requires { (Ready schema.now area.now × WindowColumns schema.now k key) × (Keys.full_key (parent_key (key_of (schema_of schema.now) k)) old ≡ true) }
-    ensures { result ≡ Lists.any (λ c. Keys.takes (key_of (schema_of schema.now) k) old c && not (Keys.serves (key_of (schema_of schema.now) k) c new)) (get_or (work_of (schema_of schema.now) area.now).tabs (key_of (schema_of schema.now) k).child []) }
+    requires { (Ready schema.now.bytes area.now × WindowColumns schema.now.bytes k key) × (Keys.full_key (parent_key (key_of (schema_of schema.now.bytes) k)) old ≡ true) }
+    ensures { result ≡ Lists.any (λ c. Keys.takes (key_of (schema_of schema.now.bytes) k) old c && not (Keys.serves (key_of (schema_of schema.now.bytes) k) c new)) (get_or (work_of (schema_of schema.now.bytes) area.now).tabs (key_of (schema_of schema.now.bytes) k).child []) }
 {
     if windows::keeps_days(old, new, key) {
         return false;
     }
-    let children = rows::rows_of(schema, fields::child(schema, k));
-    let parents = rows::rows_of(schema, fields::parent(schema, k));
-    count_left(schema, area, k, children, parents, 0, true, old, new, key) != 0
+    let children = rows::rows_of(schema, schema.child(k));
+    let parents = rows::rows_of(schema, schema.parent(k));
+    let turn = Turn {
+        parents,
+        r: 0,
+        clear: true,
+        old,
+        new,
+    };
+    count_left(schema, area, k, children, turn, key) != 0
 }

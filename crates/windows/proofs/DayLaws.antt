@@ -1,11 +1,14 @@
 -- Rows that have a sought key and days as they must be, among those that have the key.
 -- Assumes nothing.
-use mathlib.Core.Path.{◌≡◌, sym, ap, ap₂, subst, ◌∙◌}
+use mathlib.Core.Path.{◌≡◌, ap, subst, ◌∙◌}
 use mathlib.Core.Bool.{Bool, true, false, ◌&&◌}
 use mathlib.Core.List.{List, []}
-use Prim.Native.Nat.{ℕ, suc, ◌≤◌, ◌<◌}
+use Prim.Native.Nat.{ℕ, suc, ◌+◌, ◌-◌, ◌≤◌, ◌<◌}
 use lib.IntN.{ℤ}
-use lib.ListN.{get_or}
+use native.Mathlib.Omega.{arith}
+use lib.ListN.{length, get_or, take, drop, length-drop}
+use lib.Seq.{length-take-le}
+use Rattle.bridge.specs.Ready.{row_in}
 use Rattle.rules.specs.Rows.{Row}
 use Rattle.rows.specs.declared.SoughtKey.{SoughtKey}
 use Rattle.rows.specs.declared.TableRows.{TableRows}
@@ -14,31 +17,26 @@ use Rattle.rows.specs.Standing.{Standing, rows_in}
 use Rattle.scans.specs.FirstFrom.{FirstRow}
 use Rattle.scans.specs.Parts.{rows_before, rows_after}
 use Rattle.scans.proofs.ScanLaws.{before_ready, after_ready}
+use Rattle.windows.specs.declared.Interval.{Interval}
 use Rattle.windows.specs.declared.Days.{Days}
 use Rattle.windows.specs.declared.Days.TheVariants.{Within, Holding, Sharing}
-use Rattle.windows.specs.Days.{day_within, window_holds, window_shares, meets, DaysIn, is_on}
+use Rattle.windows.specs.Days.{meets, DaysIn, is_on}
 
--- ---- what the days must be, by its cases
+-- ---- a row as a part of the area
+module _ (a : List ℤ) (p w : ℕ) where
+  part_width : (p + w) - p ≡ w
+  part_width = omega arith
 
-module _ {days : Days} (row : Row) where
-  met : {days' : Days} → days ≡ days' → meets days' row ≡ meets days row
-  met e = sym (ap (λ (d : Days). meets d row) e)
+  pub part_row : take ((p + w) - p) (drop p a) ≡ row_in a p w
+  unfolding row_in
+  part_row = ap (λ (n : ℕ). take n (drop p a)) part_width
 
-  pub meets_within : {c : ℕ} {first first' end end' : ℤ} → days ≡ Within c first end → first' ≡ first → end' ≡ end → day_within c first' end' row ≡ meets days row
-  unfolding meets
-  meets_within {c = c} e f g = ap₂ (λ (x y : ℤ). day_within c x y row) f g ∙ met e
+  pub part_length : p + w ≤ length a → length (take ((p + w) - p) (drop p a)) ≡ w
+  part_length h = length-take-le ((p + w) - p) (drop p a) (omega (arith, part_width, length-drop p a, h)) ∙ part_width
 
-  pub meets_holding : {c : ℕ} {day day' : ℤ} → days ≡ Holding c day → day' ≡ day → window_holds c day' row ≡ meets days row
-  unfolding meets
-  meets_holding {c = c} e f = ap (λ (x : ℤ). window_holds c x row) f ∙ met e
-
-  pub meets_sharing : {c : ℕ} {first first' end end' : ℤ} → days ≡ Sharing c first end → first' ≡ first → end' ≡ end → window_shares c first' end' row ≡ meets days row
-  unfolding meets
-  meets_sharing {c = c} e f g = ap₂ (λ (x y : ℤ). window_shares c x y row) f g ∙ met e
-
--- their columns
+-- ---- the columns of the days
 module _ {w : ℕ} {days : Days} (h : DaysIn w days) where
-  pub within_in : {c : ℕ} {first end : ℤ} → days ≡ Within c first end → suc c < w
+  pub within_in : {c : ℕ} {x : Interval} → days ≡ Within c x → suc c < w
   unfolding DaysIn
   within_in e = subst (DaysIn w) e h
 
@@ -46,7 +44,7 @@ module _ {w : ℕ} {days : Days} (h : DaysIn w days) where
   unfolding DaysIn
   holding_in e = subst (DaysIn w) e h
 
-  pub sharing_in : {c : ℕ} {first end : ℤ} → days ≡ Sharing c first end → suc (suc c) < w
+  pub sharing_in : {c : ℕ} {x : Interval} → days ≡ Sharing c x → suc (suc c) < w
   unfolding DaysIn
   sharing_in e = subst (DaysIn w) e h
 

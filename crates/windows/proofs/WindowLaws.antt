@@ -8,20 +8,19 @@ use native.Mathlib.Numerals.{add-one}
 use native.Mathlib.Omega.{arith}
 use borrow.Author.Tests.{eqb-true, eqb-false}
 use lib.Dec.{eqb}
-use lib.IntN.{ℤ}
 use lib.ListN.{get_or, take, set, length-set}
 use lib.Signed.{le_z}
 use lib.Seq.{get_or-set_same, get_or-set_other, take-suc-set}
 use Rattle.schema.specs.Bounds.{Columns}
 use Rattle.rules.specs.Lists.{any}
-use Rattle.rules.specs.Rows.{Row, live, null_at, value_at}
+use Rattle.rules.specs.Rows.{Row, live, null_at}
 use Rattle.rules.specs.Keys.{same_key, full_key, first_day, end_day, in_window, same_window}
 use Rattle.bridge.proofs.Tests.{and_assoc}
 use Rattle.bridge.proofs.CountLaws.{any_cons, any_append}
 use Rattle.windows.specs.declared.Days.{Days}
-use Rattle.windows.specs.declared.Days.TheVariants.{Within, Holding, Sharing}
+use Rattle.windows.specs.declared.Days.TheVariants.{Within}
 use Rattle.windows.specs.declared.WindowKey.{WindowKey}
-use Rattle.windows.specs.WindowKey.{WindowIn, window_of, child_days, parent_days, clash_days, pair_folds, child_pairs, parent_pairs, child_all, parent_all, key_changes, serves_by, keeps_pairs, keeps_days, left_first, left_end, left_days}
+use Rattle.windows.specs.WindowKey.{WindowIn, window_of, days_of, child_days, pair_folds, child_pairs, parent_pairs, child_all, parent_all, key_changes, serves_by, keeps_pairs, keeps_days, cut, left_days}
 
 -- ---- a key with one column more
 
@@ -38,23 +37,9 @@ full_last row cs c =
     ∙ and_assoc (live row) (not (any (null_at row) cs)) (not (null_at row c))
 
 module _ (x : WindowKey) where
-  -- ---- what the days of rows must be
+  -- ---- NULL in the keys
 
   module _ (row : Row) where
-    pub child_within : {a b : ℤ} → a ≡ value_at row x.first → b ≡ value_at row (x.first + 1) → Within x.day a b ≡ child_days row x
-    unfolding child_days first_day end_day
-    child_within e f = ap₂ (Within x.day) e (f ∙ ap (value_at row) (add-one x.first))
-
-    pub parent_holding : {a : ℤ} → a ≡ value_at row x.day → Holding x.first a ≡ parent_days row x
-    unfolding parent_days
-    parent_holding e = ap (Holding x.first) e
-
-    pub clash_sharing : {a b : ℤ} → a ≡ value_at row x.first → b ≡ value_at row (x.first + 1) → Sharing x.first a b ≡ clash_days row x
-    unfolding clash_days first_day end_day
-    clash_sharing e f = ap₂ (Sharing x.first) e (f ∙ ap (value_at row) (add-one x.first))
-
-    -- ---- NULL in the keys
-
     pub child_full : full_key (child_all x) row ≡ full_key (child_pairs x) row && not (null_at row x.day)
     unfolding child_all
     child_full = full_last row (child_pairs x) x.day
@@ -153,8 +138,7 @@ module _ (x : WindowKey) where
 
     -- the old window's days but for those at either end that the new one has
     abbrev pub narrowed : Days
-    narrowed =
-        Within x.day (left_first (first_day (window_of x) old) (first_day (window_of x) new) (end_day (window_of x) new)) (left_end (end_day (window_of x) old) (first_day (window_of x) new) (end_day (window_of x) new))
+    narrowed = Within x.day (cut (days_of x old) (days_of x new))
 
     pub left_all : keeps_pairs x old new ≡ false → child_days old x ≡ left_days old new x
     unfolding left_days

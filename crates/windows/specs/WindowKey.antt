@@ -9,6 +9,7 @@ use Rattle.rules.specs.Rows.{Row, live}
 use Rattle.rules.specs.Keys.{same_key, full_key, first_day, end_day, is_within, in_window, same_window}
 use Rattle.rules.specs.Rows.{value_at}
 use Rattle.rows.specs.KeyColumns.{folds_in, WholeKey, KeyColumns}
+use Rattle.windows.specs.declared.Interval.{Interval}
 use Rattle.windows.specs.declared.Days.{Days}
 use Rattle.windows.specs.declared.Days.TheVariants.{Within, Holding, Sharing}
 use Rattle.windows.specs.declared.WindowKey.{WindowKey}
@@ -38,9 +39,13 @@ pub record WindowIn (x : WindowKey) : Type 0 where
 
 -- ---- what the days of rows are sought for
 
+-- a parent row's window
+abbrev pub days_of : WindowKey → Row → Interval
+days_of x parent = record { first = first_day (window_of x) parent; end = end_day (window_of x) parent }
+
 -- child rows that map to a parent row: their day is in its window
 unfoldable pub child_days : Row → WindowKey → Days
-child_days parent x = Within x.day (first_day (window_of x) parent) (end_day (window_of x) parent)
+child_days parent x = Within x.day (days_of x parent)
 
 -- parent rows that a child row maps to: their window holds its day
 unfoldable pub parent_days : Row → WindowKey → Days
@@ -48,7 +53,7 @@ parent_days child x = Holding x.first (value_at child x.day)
 
 -- parent rows whose window shares a day with a parent row's
 unfoldable pub clash_days : Row → WindowKey → Days
-clash_days parent x = Sharing x.first (first_day (window_of x) parent) (end_day (window_of x) parent)
+clash_days parent x = Sharing x.first (days_of x parent)
 
 -- ---- keys of images, by the columns
 
@@ -98,13 +103,10 @@ left_first day first end = cond (is_within first end day) end day
 unfoldable pub left_end : ℤ → ℤ → ℤ → ℤ
 left_end stop first end = cond (lt_z first stop && le_z stop end) first stop
 
+-- its days but for those at either end that another one holds
+abbrev pub cut : Interval → Interval → Interval
+cut x y = record { first = left_first x.first y.first y.end; end = left_end x.end y.first y.end }
+
 -- child rows that map to it before and may not map to it then: the days at either end of its window that it keeps are left out
 unfoldable pub left_days : Row → Row → WindowKey → Days
-left_days old new x =
-    cond
-    (keeps_pairs x old new)
-    (Within
-    x.day
-    (left_first (first_day (window_of x) old) (first_day (window_of x) new) (end_day (window_of x) new))
-    (left_end (end_day (window_of x) old) (first_day (window_of x) new) (end_day (window_of x) new)))
-    (child_days old x)
+left_days old new x = cond (keeps_pairs x old new) (Within x.day (cut (days_of x old) (days_of x new))) (child_days old x)

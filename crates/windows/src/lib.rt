@@ -2,28 +2,41 @@
 
 #![tactic(auto)]
 
-ghost use Rattle.std.specs.Prelude.{◌≡◌, not, ◌&&◌, suc, ◌≤◌, ◌<◌};
+ghost use Rattle.std.specs.Prelude.{◌≡◌, not, ◌&&◌, suc, ◌≤◌, ◌<◌, length};
 ghost use Rattle.rules.specs.Lists;
 ghost use Rattle.rules.specs.Rows;
 ghost use Rattle.rules.specs.Keys;
 ghost use Rattle.rules.specs.Lists.{except};
-ghost use Rattle.bridge.specs.Ready.{row_in};
-ghost use Rattle.rows.specs.Standing.{RowAt, Standing, rows_in};
-ghost use Rattle.rows.specs.Sought.{SoughtIn};
-ghost use Rattle.scans.specs.FirstFrom.{FirstRow};
-ghost use Rattle.windows.specs.Days.{day_within, window_holds, window_shares, meets, DaysIn, is_on};
+ghost use Rattle.rows.specs.Standing.{Standing, rows_in};
+ghost use Rattle.scans.specs.FirstFrom.{FirstIs};
+ghost use Rattle.windows.specs.Days.{HasColumn, window_in, meets, DaysIn, is_on, SearchedIn};
 ghost use Rattle.std.specs.Int.Signed.{le_z};
-ghost use Rattle.windows.specs.WindowKey.{WindowIn, WindowedKey, WindowColumns, window_of, child_days, parent_days, clash_days, child_all, parent_all, key_changes, serves_by, keeps_pairs, keeps_days, left_first, left_end, left_days};
+ghost use Rattle.windows.specs.WindowKey.{WindowIn, WindowedKey, WindowColumns, window_of, child_days, parent_days, clash_days, child_all, parent_all, key_changes, serves_by, keeps_pairs, keeps_days, cut, left_days};
 
+use fields::Schema;
 use rows::{KeyPairs, SoughtKey, TableRows};
 
-// What the days of a sought row must be, beside its key: the day in a column is in the window from a first day to an end; the
-// window whose first day stands in a column, and whose end in the next, holds a day; or it shares a day with a window.
+// The days from a first one on, before an end.
+#[derive(Clone, Copy)]
+pub struct Interval {
+    pub first: i64,
+    pub end: i64,
+}
+
+// What the days of a sought row must be, beside its key: the day in a column is in a window; the window whose first day stands in
+// a column, and whose end in the next, holds a day; or it shares a day with a window.
 #[derive(Clone, Copy)]
 pub enum Days {
-    Within(usize, i64, i64),
-    Holding(usize, i64),
-    Sharing(usize, i64, i64),
+    Within { column: usize, window: Interval },
+    Holding { column: usize, day: i64 },
+    Sharing { column: usize, window: Interval },
+}
+
+// What rows are sought by: their key, and what their days must be.
+#[derive(Clone, Copy)]
+pub struct Sought {
+    pub key: SoughtKey,
+    pub days: Days,
 }
 
 // The columns of a key with a window: its pairs, the child column of the day, and the parent column of the first day; the end
@@ -37,139 +50,150 @@ pub struct WindowKey {
 
 // ---- days
 
-// Whether a day is in the window from a first day to an end.
-pub fn is_within(first: i64, end: i64, day: i64) -> bool
-    ensures { result ≡ Keys.is_within first end day }
-{
-    (first <= day) & (day < end)
-}
+impl Interval {
+    // Whether a day is in it.
+    pub fn contains(self, day: i64) -> bool
+        ensures { result ≡ Keys.is_within self.first self.end day }
+    {
+        (self.first <= day) & (day < self.end)
+    }
 
-// Whether two windows share a day.
-pub fn shares_day(first: i64, end: i64, first2: i64, end2: i64) -> bool
-    ensures { result ≡ Keys.shares_day first end first2 end2 }
-{
-    ((first < end) & (first < end2)) & ((first2 < end) & (first2 < end2))
+    // Whether it shares a day with another.
+    pub fn shares_day(self, other: Interval) -> bool
+        ensures { result ≡ Keys.shares_day self.first self.end other.first other.end }
+    {
+        ((self.first < self.end) & (self.first < other.end))
+            & ((other.first < self.end) & (other.first < other.end))
+    }
+
+    // It without the days at either end that another holds.
+    fn cut_by(self, other: Interval) -> Interval
+        ensures { result ≡ cut self other }
+    {
+        let first = if other.contains(self.first) {
+            other.end
+        } else {
+            self.first
+        };
+        let end = if (other.first < self.end) & (self.end <= other.end) {
+            other.first
+        } else {
+            self.end
+        };
+        Interval { first, end }
+    }
 }
 
 // ---- the days of a row
 
-// Whether column c of the row at p is not NULL.
-fn is_filled(area: &[i64], p: usize, w: usize, c: usize) -> bool
-    requires { RowAt area.now p w × (suc c < w) }
-    ensures { result ≡ not (Rows.null_at (row_in area.now p w) c) }
+// Whether column c of a row is not NULL.
+fn is_filled(row: &[i64], c: usize) -> bool
+    requires { HasColumn row.now c }
+    ensures { result ≡ not (Rows.null_at row.now c) }
 {
-    let state = words::nat_at(area, p);
-    !numbers::bit_of(c, state)
+    !numbers::bit_of(c, words::nat_of(row[0]))
 }
 
-// The value of column c of the row at p.
-fn value_of(area: &[i64], p: usize, w: usize, c: usize) -> i64
-    requires { RowAt area.now p w × (suc c < w) }
-    ensures { result ≡ Rows.value_at (row_in area.now p w) c }
+// The value of column c of a row.
+fn value_of(row: &[i64], c: usize) -> i64
+    requires { HasColumn row.now c }
+    ensures { result ≡ Rows.value_at row.now c }
 {
-    area[p + c + 1]
+    row[c + 1]
 }
 
-// Whether the day in column c of the row at p is in a window.
-fn day_within(area: &[i64], p: usize, w: usize, c: usize, first: i64, end: i64) -> bool
-    requires { RowAt area.now p w × (suc c < w) }
-    ensures { result ≡ day_within c first end (row_in area.now p w) }
+// The window whose first day stands in column c of a row, and whose end in the next.
+fn window_in(row: &[i64], c: usize) -> Interval
+    requires { HasColumn row.now (suc c) }
+    ensures { result ≡ window_in row.now c }
 {
-    let day = value_of(area, p, w, c);
-    is_filled(area, p, w, c) & is_within(first, end, day)
+    Interval {
+        first: value_of(row, c),
+        end: value_of(row, c + 1),
+    }
 }
 
-// Whether the window of the row at p, whose first day stands in column c, holds a day.
-fn window_holds(area: &[i64], p: usize, w: usize, c: usize, day: i64) -> bool
-    requires { RowAt area.now p w × (suc (suc c) < w) }
-    ensures { result ≡ window_holds c day (row_in area.now p w) }
+// Whether neither of these is NULL.
+fn has_window(row: &[i64], c: usize) -> bool
+    requires { HasColumn row.now (suc c) }
+    ensures { result ≡ not (Rows.null_at row.now c) && not (Rows.null_at row.now (suc c)) }
 {
-    let first = value_of(area, p, w, c);
-    let end = value_of(area, p, w, c + 1);
-    let filled = is_filled(area, p, w, c) & is_filled(area, p, w, c + 1);
-    filled & is_within(first, end, day)
+    is_filled(row, c) & is_filled(row, c + 1)
 }
 
-// Whether the window of the row at p, whose first day stands in column c, shares a day with a window.
-fn window_shares(area: &[i64], p: usize, w: usize, c: usize, first: i64, end: i64) -> bool
-    requires { RowAt area.now p w × (suc (suc c) < w) }
-    ensures { result ≡ window_shares c first end (row_in area.now p w) }
-{
-    let own = value_of(area, p, w, c);
-    let stop = value_of(area, p, w, c + 1);
-    let filled = is_filled(area, p, w, c) & is_filled(area, p, w, c + 1);
-    filled & shares_day(own, stop, first, end)
-}
-
-// Whether the days of the row at p are as they must be.
-fn meets(area: &[i64], p: usize, w: usize, days: Days) -> bool
-    requires { RowAt area.now p w × DaysIn w days }
-    ensures { result ≡ meets days (row_in area.now p w) }
+// Whether the days of a row are as they must be.
+fn meets(row: &[i64], days: Days) -> bool
+    requires { (length row.now ≤ 9) × DaysIn (length row.now) days }
+    ensures { result ≡ meets days row.now }
 {
     match days {
-        Days::Within(c, first, end) => day_within(area, p, w, c, first, end),
-        Days::Holding(c, day) => window_holds(area, p, w, c, day),
-        Days::Sharing(c, first, end) => window_shares(area, p, w, c, first, end),
+        Days::Within { column, window } => {
+            is_filled(row, column) & window.contains(value_of(row, column))
+        }
+        Days::Holding { column, day } => {
+            has_window(row, column) & window_in(row, column).contains(day)
+        }
+        Days::Sharing { column, window } => {
+            has_window(row, column) & window_in(row, column).shares_day(window)
+        }
     }
 }
 
 // ---- all rows
 
-// The first row from `from` on that is live and has a sought key, and whose days are as they must be; the number of rows where there is none.
-pub fn first_on(area: &[i64], table: TableRows, key: SoughtKey, days: Days, from: usize) -> usize
-    requires { (Standing area.now table × (from ≤ table.count)) × (((1 ≤ key.n) × SoughtIn table.width key) × DaysIn table.width days) }
-    ensures { FirstRow (is_on key days) area.now table from result }
+// The first row from `from` on that is live and has a sought key, and whose days are as they must be.
+pub fn first_on(area: &[i64], table: TableRows, sought: Sought, from: usize) -> Option<usize>
+    requires { (Standing area.now table × (from ≤ table.count)) × SearchedIn table.width sought }
+    ensures { FirstIs (is_on sought.key sought.days) area.now table from result }
 {
-    let start = table.start;
-    let w = table.width;
-    let rows = table.count;
-    let mut j = scans::first_with_key(area, table, key, from);
-    while j < rows {
-        if meets(area, start + j * w, w, days) {
-            return j;
+    // A loop by hand: the search goes on from the row after the one that has the key.
+    let mut j = from;
+    while let Some(i) = scans::first_with_key(area, table, &sought.key, j) {
+        let p = table.start + i * table.width;
+        if meets(&area[p..p + table.width], sought.days) {
+            return Some(i);
         }
-        j = scans::first_with_key(area, table, key, j + 1);
+        j = i + 1;
     }
-    rows
+    None
 }
 
 // Whether one of the rows is live and has a sought key, and its days are as they must be.
-pub fn any_on(area: &[i64], table: TableRows, key: SoughtKey, days: Days) -> bool
-    requires { Standing area.now table × (((1 ≤ key.n) × SoughtIn table.width key) × DaysIn table.width days) }
-    ensures { result ≡ Lists.any (is_on key days) (rows_in area.now table) }
+pub fn any_on(area: &[i64], table: TableRows, sought: Sought) -> bool
+    requires { Standing area.now table × SearchedIn table.width sought }
+    ensures { result ≡ Lists.any (is_on sought.key sought.days) (rows_in area.now table) }
 {
-    let j = first_on(area, table, key, days, 0);
-    j < table.count
+    first_on(area, table, sought, 0).is_some()
 }
 
 // ---- all rows but one
 
 // Whether a row other than row r is live and has a sought key, and its days are as they must be.
-pub fn other_on(area: &[i64], table: TableRows, r: usize, key: SoughtKey, days: Days) -> bool
-    requires { (Standing area.now table × (r < table.count)) × (((1 ≤ key.n) × SoughtIn table.width key) × DaysIn table.width days) }
-    ensures { result ≡ Lists.any (is_on key days) (except r (rows_in area.now table)) }
+pub fn other_on(area: &[i64], table: TableRows, r: usize, sought: Sought) -> bool
+    requires { (Standing area.now table × (r < table.count)) × SearchedIn table.width sought }
+    ensures { result ≡ Lists.any (is_on sought.key sought.days) (except r (rows_in area.now table)) }
 {
     let before = scans::rows_before(table, r);
-    if any_on(area, before, key, days) {
+    if any_on(area, before, sought) {
         return true;
     }
     let after = scans::rows_after(area, table, r);
-    any_on(area, after, key, days)
+    any_on(area, after, sought)
 }
 
 // ---- the columns of a key with a window
 
 // The columns of foreign key k, which is not broken and has a window.
-pub fn window_key(schema: &[u8], k: usize) -> WindowKey
-    requires { WindowedKey schema.now k }
-    ensures { WindowColumns schema.now k result }
+pub fn window_key(schema: &Schema, k: usize) -> WindowKey
+    requires { WindowedKey schema.now.bytes k }
+    ensures { WindowColumns schema.now.bytes k result }
 {
-    let n = fields::width(schema, k) - 1;
-    let cs = fields::child_columns(schema, k);
-    let ps = fields::parent_columns(schema, k);
+    let n = schema.width(k) - 1;
+    let cs = schema.child_columns(k);
+    let ps = schema.parent_columns(k);
     let pairs = rows::pairs_of(schema, k, n);
     WindowKey {
-        pairs: pairs,
+        pairs,
         day: cs[n],
         first: ps[n],
     }
@@ -177,25 +201,15 @@ pub fn window_key(schema: &[u8], k: usize) -> WindowKey
 
 // ---- what the days of rows are sought for
 
-// The value of column c of an image.
-fn image_value(image: [i64; 9], c: usize) -> i64
-    requires { c < 8 }
-    ensures { result ≡ Rows.value_at image c }
-{
-    image[c + 1]
-}
-
 // What the days of child rows must be, that map to a parent row with an image.
 pub fn child_days(image: [i64; 9], key: WindowKey) -> Days
     requires { WindowIn key }
     ensures { result ≡ child_days image key }
 {
-    let first = key.first;
-    Days::Within(
-        key.day,
-        image_value(image, first),
-        image_value(image, first + 1),
-    )
+    Days::Within {
+        column: key.day,
+        window: window_in(&image, key.first),
+    }
 }
 
 // What the days of parent rows must be, that a child row with an image maps to.
@@ -203,32 +217,25 @@ pub fn parent_days(image: [i64; 9], key: WindowKey) -> Days
     requires { WindowIn key }
     ensures { result ≡ parent_days image key }
 {
-    Days::Holding(key.first, image_value(image, key.day))
+    Days::Holding {
+        column: key.first,
+        day: value_of(&image, key.day),
+    }
 }
 
-// What the days of parent rows must be, whose windows share a day with that of an image.
+// What the days of parent rows must be, whose windows share a day with that of an image. They stand in the parent columns and are
+// asked otherwise than the days of child rows, so no function serves both.
 pub fn clash_days(image: [i64; 9], key: WindowKey) -> Days
     requires { WindowIn key }
     ensures { result ≡ clash_days image key }
 {
-    let first = key.first;
-    Days::Sharing(
-        first,
-        image_value(image, first),
-        image_value(image, first + 1),
-    )
+    Days::Sharing {
+        column: key.first,
+        window: window_in(&image, key.first),
+    }
 }
 
 // ---- images
-
-// Whether column c of an image is not NULL.
-fn image_filled(image: [i64; 9], c: usize) -> bool
-    requires { c < 8 }
-    ensures { result ≡ not (Rows.null_at image c) }
-{
-    let state = words::nat_of(image[0]);
-    !numbers::bit_of(c, state)
-}
 
 // Whether an image is live and has no NULL in its child key.
 pub fn full_child(image: [i64; 9], key: WindowKey) -> bool
@@ -237,7 +244,7 @@ pub fn full_child(image: [i64; 9], key: WindowKey) -> bool
 {
     let pairs = key.pairs;
     let cs = pairs.cs;
-    rows::image_full_key(image, pairs.n, cs) && image_filled(image, key.day)
+    rows::image_full_key(image, pairs.n, cs) && is_filled(&image, key.day)
 }
 
 // Whether an image is live and has some but not all columns of its child key NULL.
@@ -259,10 +266,7 @@ pub fn full_parent(image: [i64; 9], key: WindowKey) -> bool
 {
     let pairs = key.pairs;
     let ps = pairs.ps;
-    if !rows::image_full_key(image, pairs.n, ps) {
-        return false;
-    }
-    image_filled(image, key.first) & image_filled(image, key.first + 1)
+    rows::image_full_key(image, pairs.n, ps) && has_window(&image, key.first)
 }
 
 // Whether the window of an image ends on its first day or before it.
@@ -270,9 +274,8 @@ pub fn is_empty(image: [i64; 9], key: WindowKey) -> bool
     requires { WindowIn key }
     ensures { result ≡ le_z (Keys.end_day (window_of key) image) (Keys.first_day (window_of key) image) }
 {
-    let first = image_value(image, key.first);
-    let end = image_value(image, key.first + 1);
-    end <= first
+    let window = window_in(&image, key.first);
+    window.end <= window.first
 }
 
 // Whether two images have the same window.
@@ -309,12 +312,9 @@ fn in_window(child: [i64; 9], parent: [i64; 9], key: WindowKey) -> bool
     requires { WindowIn key }
     ensures { result ≡ Keys.in_window child parent (window_of key) }
 {
-    let p = key.first;
-    let ends = image_filled(parent, p) & image_filled(parent, p + 1);
-    let filled = image_filled(child, key.day) & ends;
-    let first = image_value(parent, p);
-    let end = image_value(parent, p + 1);
-    filled & is_within(first, end, image_value(child, key.day))
+    let filled = is_filled(&child, key.day) & has_window(&parent, key.first);
+    let window = window_in(&parent, key.first);
+    filled & window.contains(value_of(&child, key.day))
 }
 
 // Whether a parent row with an image serves a child row with one: it is live, their pairs are equal, and the day is in the window.
@@ -357,32 +357,9 @@ pub fn keeps_days(old: [i64; 9], new: [i64; 9], key: WindowKey) -> bool
     if !keeps_pairs(old, new, key) {
         return false;
     }
-    let c = key.first;
-    let first = image_value(old, c);
-    let end = image_value(old, c + 1);
-    let first2 = image_value(new, c);
-    let end2 = image_value(new, c + 1);
-    (first2 <= first) & (end <= end2)
-}
-
-// The first day of a window, or the end of another one that holds it.
-fn left_first(day: i64, first: i64, end: i64) -> i64
-    ensures { result ≡ left_first day first end }
-{
-    if is_within(first, end, day) {
-        return end;
-    }
-    day
-}
-
-// The end of a window, or the first day of another one that holds all days from there to that end.
-fn left_end(stop: i64, first: i64, end: i64) -> i64
-    ensures { result ≡ left_end stop first end }
-{
-    if (first < stop) & (stop <= end) {
-        return first;
-    }
-    stop
+    let before = window_in(&old, key.first);
+    let after = window_in(&new, key.first);
+    (after.first <= before.first) & (before.end <= after.end)
 }
 
 // What the days of child rows must be, that map to a parent row with the old image and may not map to it with the new one: where
@@ -394,10 +371,10 @@ pub fn left_days(old: [i64; 9], new: [i64; 9], key: WindowKey) -> Days
     if !keeps_pairs(old, new, key) {
         return child_days(old, key);
     }
-    let c = key.first;
-    let first = image_value(new, c);
-    let end = image_value(new, c + 1);
-    let from = left_first(image_value(old, c), first, end);
-    let until = left_end(image_value(old, c + 1), first, end);
-    Days::Within(key.day, from, until)
+    let before = window_in(&old, key.first);
+    let after = window_in(&new, key.first);
+    Days::Within {
+        column: key.day,
+        window: before.cut_by(after),
+    }
 }

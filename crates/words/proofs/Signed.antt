@@ -1,7 +1,8 @@
 -- A signed local holds bits: what a test or a cast of it says of the word itself. Assumes nothing.
 use mathlib.Core.Path.{◌≡◌, refl, subst}
 use mathlib.Core.Bool.{true, false, ◌&&◌}
-use Prim.Native.Nat.{ℕ, ◌^◌, ◌<◌}
+use Rattle.std.specs.Int.{int_max}
+use Prim.Native.Nat.{ℕ, zero, suc, ◌^◌, ◌<◌}
 use native.Mathlib.Omega.{arith}
 use lib.IntN.{ℤ, pos, negsuc, nat_abs}
 use lib.Dec.{T, leb, leb-zero}
@@ -9,21 +10,12 @@ use lib.Signed.{lt_z, le_z, non_neg, mag}
 use mir.Syntax.{w64}
 use mir.Val.{Fits, SFits, to_z, of_z}
 use mir.ValLaws.{to_z-of_z}
-use borrow.Author.Tests.{ltb-true}
+use borrow.Author.Tests.{lt-ltb}
 use Rattle.rules.specs.Values.{nat_of, natural, in_range}
 
 -- a word that was read, through the local that holds its bits
 pub back : (z : ℤ) → mag z < 2 ^ 63 → to_z w64 (of_z w64 z) ≡ z
 back z h = to_z-of_z w64 z (record { sfits = h })
-
-neg' : (z : ℤ) → lt_z z (pos 0) ≡ true → 0 ≡ nat_of z
-unfolding nat_of
-neg' (pos n) e = let h : n < 0 = ltb-true n 0 e in absurd (omega arith)
-neg' (negsuc n) e = refl
-
--- what x reads back as is negative
-pub neg_nat : (z : ℤ) → SFits w64 z → lt_z (to_z w64 (of_z w64 z)) (pos 0) ≡ true → 0 ≡ nat_of z
-neg_nat z f e = neg' z (rw (to_z-of_z w64 z f) at e)
 
 pub true_false : true ≡ false → ⊥
 true_false e = subst T e tt
@@ -32,18 +24,16 @@ nonneg' : (z : ℤ) → SFits w64 z → lt_z z (pos 0) ≡ false → T (non_neg 
 nonneg' (pos n) f e = (tt, omega arith)
 nonneg' (negsuc n) f e = absurd (true_false e)
 
-nonneg_nat' : (z : ℤ) → lt_z z (pos 0) ≡ false → nat_abs z ≡ nat_of z
-unfolding nat_of
-nonneg_nat' (pos n) e = refl
-nonneg_nat' (negsuc n) e = absurd (true_false e)
-
 -- the cast of a word that is not negative is defined
 pub nonneg : (z : ℤ) → SFits w64 z → lt_z (to_z w64 (of_z w64 z)) (pos 0) ≡ false → T (non_neg (to_z w64 (of_z w64 z))) × Fits w64 (nat_abs (to_z w64 (of_z w64 z)))
 nonneg z f e = rw (to_z-of_z w64 z f) (nonneg' z f (rw (to_z-of_z w64 z f) at e))
 
--- and is the word's number
-pub nonneg_nat : (z : ℤ) → SFits w64 z → lt_z (to_z w64 (of_z w64 z)) (pos 0) ≡ false → nat_abs (to_z w64 (of_z w64 z)) ≡ nat_of z
-nonneg_nat z f e = rw (to_z-of_z w64 z f) (nonneg_nat' z (rw (to_z-of_z w64 z f) at e))
+-- the greater of a word and 0 is the word's number
+pub max_nat : (z : ℤ) → int_max z (pos 0) ≡ pos (nat_of z)
+unfolding nat_of
+max_nat (pos zero) = refl
+max_nat (pos (suc n)) = rw (lt-ltb 0 (suc n) (omega arith)) refl
+max_nat (negsuc n) = refl
 
 natural' : (z : ℤ) → le_z (pos 0) z ≡ natural z
 unfolding natural

@@ -11,10 +11,7 @@ ghost use Rattle.rules.specs.Values.{nat_of, natural, in_range, same_word, all_z
 pub fn nat_of(w: i64) -> usize
     ensures { result ≡ nat_of w }
 {
-    if w < 0 {
-        return 0;
-    }
-    w as usize
+    w.max(0) as usize
 }
 
 // A number as a word.
@@ -26,6 +23,7 @@ pub fn word_of(n: usize) -> i64
 }
 
 // Whether two words are the same number.
+// The rules compare words by cases: that `==` does the same is shown here, for all callers.
 pub fn same_word(a: i64, b: i64) -> bool
     ensures { result ≡ same_word a b }
 {
@@ -60,22 +58,14 @@ pub fn is_zero_at(area: &[i64], i: usize) -> bool
     requires { i < length area.now }
     ensures { result ≡ same_word (pos 0) (get_or area.now i (pos 0)) }
 {
-    same_word(0, area[i])
+    area[i] == 0
 }
 
 // Whether the words from `from` on are all 0.
 pub fn all_zero_from(area: &[i64], from: usize) -> bool
     ensures { result ≡ all_zero (drop from area.now) }
 {
-    let n = area.len();
-    let mut i = from;
-    while i < n {
-        if !is_zero_at(area, i) {
-            return false;
-        }
-        i += 1;
-    }
-    true
+    area[from.min(area.len())..].iter().all(|w| *w == 0)
 }
 
 // Whether the word at i is a number from 0 to n.
@@ -86,17 +76,20 @@ pub fn is_in_range_at(area: &[i64], i: usize, n: usize) -> bool
     is_natural_at(area, i) & (nat_at(area, i) <= n)
 }
 
-// Writes the first `count` words of an image, its state and its values, at `at` of the table.
-pub fn put_row(table: &mut [i64], at: usize, image: [i64; 9], count: usize)
-    requires { (at + count ≤ length table.old) × (count ≤ 9) }
-    ensures { table.new ≡ sets table.old at (take count image) }
+// Writes words at `at`.
+pub fn put_words(area: &mut [i64], at: usize, words: &[i64])
+    requires { at + length words.now ≤ length area.old }
+    ensures { area.new ≡ sets area.old at words.now }
 {
-    let mut k = 0;
-    while k < count {
-        let v = image[k];
-        table[at + k] = v;
-        k += 1;
-    }
+    area[at..at + words.len()].copy_from_slice(words);
+}
+
+// Zeroes `count` words from `from` on.
+pub fn clear_part(area: &mut [i64], from: usize, count: usize)
+    requires { from + count ≤ length area.old }
+    ensures { area.new ≡ sets area.old from (replicate count (pos 0)) }
+{
+    area[from..from + count].fill(0);
 }
 
 // Zeroes the words from `from` on.
@@ -104,12 +97,8 @@ pub fn clear_from(area: &mut [i64], from: usize)
     requires { from ≤ length area.old }
     ensures { area.new ≡ take from area.old ++ replicate (length area.old - from) (pos 0) }
 {
-    let n = area.len();
-    let mut i = from;
-    while i < n {
-        area[i] = 0;
-        i += 1;
-    }
+    let count = area.len() - from;
+    clear_part(area, from, count);
 }
 
 // Writes row r of the table that stands from `start` to `end`, through the table's part of the area.
@@ -125,7 +114,17 @@ pub fn write_row(
     ensures { area.new ≡ sets area.old (start + r * stride) (take stride image) }
 {
     let at = r * stride;
-    put_row(&mut area[start..end], at, image, stride);
+    put_words(&mut area[start..end], at, &image[..stride]);
+}
+
+// The words given, and zeros up to N.
+fn padded_to<const N: usize>(words: &[i64]) -> [i64; N]
+    requires { length words.now ≤ N }
+    ensures { result ≡ padded N words.now }
+{
+    let mut all = [0i64; N];
+    all[..words.len()].copy_from_slice(words);
+    all
 }
 
 // The image of the row of `width` words at p.
@@ -133,14 +132,7 @@ pub fn image_at(area: &[i64], p: usize, width: usize) -> [i64; 9]
     requires { (p + width ≤ length area.now) × (width ≤ 9) }
     ensures { result ≡ padded 9 (take width (drop p area.now)) }
 {
-    let mut image = [0i64; 9];
-    let mut k = 0;
-    while k < width {
-        let v = area[p + k];
-        image[k] = v;
-        k += 1;
-    }
-    image
+    padded_to(&area[p..p + width])
 }
 
 // The 32 numbers at p.
@@ -148,37 +140,13 @@ pub fn numbers_at(area: &[i64], p: usize) -> [i64; 32]
     requires { p + 32 ≤ length area.now }
     ensures { result ≡ take 32 (drop p area.now) }
 {
-    let mut numbers = [0i64; 32];
-    let mut k = 0;
-    while k < 32 {
-        let v = area[p + k];
-        numbers[k] = v;
-        k += 1;
-    }
-    numbers
+    padded_to(&area[p..p + 32])
 }
 
-// Writes 32 numbers at p.
+// Writes 32 numbers at p: `put_words` of an array.
 pub fn put_numbers(area: &mut [i64], p: usize, numbers: [i64; 32])
     requires { p + 32 ≤ length area.old }
     ensures { area.new ≡ sets area.old p numbers }
 {
-    let mut k = 0;
-    while k < 32 {
-        let v = numbers[k];
-        area[p + k] = v;
-        k += 1;
-    }
-}
-
-// Zeroes `count` words from `from` on.
-pub fn clear_part(area: &mut [i64], from: usize, count: usize)
-    requires { from + count ≤ length area.old }
-    ensures { area.new ≡ sets area.old from (replicate count (pos 0)) }
-{
-    let mut k = 0;
-    while k < count {
-        area[from + k] = 0;
-        k += 1;
-    }
+    put_words(area, p, &numbers);
 }

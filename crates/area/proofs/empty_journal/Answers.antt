@@ -4,31 +4,15 @@ use Prim.Native.Nat.{◌+◌}
 use native.Mathlib.Omega.{arith}
 use native.Mathlib.Nat.{add-zero}
 use lib.IntN.{ℤ, pos}
-use lib.ListN.{set, length-append}
+use lib.ListN.{set}
 use Rattle.schema.specs.Fields.{schema_of}
 use Rattle.schema.specs.Sizes.{rows_start, rows_size}
 use Rattle.bridge.proofs.ClearWords.{emptied_is}
-use Rattle.area.proofs.SpareLaws.{part_length, part_cleared}
+use Rattle.area.proofs.SpareLaws.{part_cleared}
 use Rattle.area.proofs.empty_journal.Goals as goal
-
-pub record_at-at-requires : goal.record_at-at-requires
-record_at-at-requires c = (c.requires.0, omega arith)
-
-pub slice_bounds-clear_from-end : goal.slice_bounds-clear_from-end
-slice_bounds-clear_from-end c = c.dirty_end-end.ensures.inside
-
-pub clear_from-requires : goal.clear_from-requires
-clear_from-requires c =
-    let record_at = c.record_at-at in
-    omega (arith, part_length c.dirty_end-end.ensures, c.dirty_end-end.ensures.after, record_at.ensures)
-
-pub slice_set_of-area : goal.slice_set_of-area
-slice_set_of-area c =
-    let dirty_end = c.dirty_end-end in
-    simp length-append (omega (arith, part_length dirty_end.ensures, dirty_end.ensures.after, c.clear_from.auto.area))
 
 pub returns : goal.returns
 returns c =
     let record_at = c.record_at-at in
     let dirty_end = c.dirty_end-end in
-    emptied_is c.requires.0.fit record_at.result (record_at.ensures ∙ add-zero (rows_start + rows_size (schema_of c.args.schema.now).tables)) (ap (λ (l : List ℤ). set l 2 (pos 0)) (part_cleared dirty_end.ensures record_at.result (omega (arith, dirty_end.ensures.after, record_at.ensures)) c.clear_from.ensures))
+    emptied_is c.requires.0.fit record_at.result (record_at.ensures ∙ add-zero (rows_start + rows_size (schema_of c.args.schema.now.bytes).tables)) (ap (λ (l : List ℤ). set l 2 (pos 0)) (part_cleared dirty_end.ensures record_at.result (omega (arith, dirty_end.ensures.after, record_at.ensures)) c.clear_from.ensures))

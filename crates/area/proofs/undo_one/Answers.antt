@@ -1,29 +1,6 @@
 use mathlib.Core.Path.{◌∙◌}
-use native.Mathlib.Omega.{arith}
-use Rattle.schema.proofs.FieldLaws.{room_few}
-use Rattle.area.proofs.Places.{area_long}
-use Rattle.area.proofs.Journal.{use_in_room, newest_place, newest_undone}
+use Rattle.area.proofs.Journal.{newest_place, newest_undone}
 use Rattle.area.proofs.undo_one.Goals as goal
-
-pub record_at-at-requires : goal.record_at-at-requires
-record_at-at-requires c =
-    (c.requires.0.ready, omega (arith, use_in_room c.requires.0.ready.fit))
-
-pub nat_at-place-requires : goal.nat_at-place-requires
-nat_at-place-requires c =
-    omega (arith, use_in_room c.requires.0.ready.fit, area_long c.requires.0.ready.fit)
-
-pub overflow_add-at : goal.overflow_add-at
-overflow_add-at c =
-    omega (arith, use_in_room c.requires.0.ready.fit, area_long c.requires.0.ready.fit)
-
-pub image_at-old-requires : goal.image_at-old-requires
-image_at-old-requires c =
-    (omega (arith, use_in_room c.requires.0.ready.fit, area_long c.requires.0.ready.fit), omega arith)
-
-pub set_record-requires : goal.set_record-requires
-set_record-requires c =
-    (omega (arith, use_in_room c.requires.0.ready.fit, area_long c.requires.0.ready.fit), (omega arith, omega (arith, use_in_room c.requires.0.ready.fit, room_few _ c.requires.0.ready.accepted)))
 
 pub put_in_table-requires : goal.put_in_table-requires
 put_in_table-requires c =

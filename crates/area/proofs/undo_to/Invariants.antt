@@ -1,6 +1,6 @@
 use mathlib.Core.Path.{◌≡◌}
 use lib.IntN.{pos}
-use lib.ListN.{length, get_or}
+use lib.ListN.{get_or}
 use Rattle.schema.specs.Fields.{schema_of}
 use Rattle.rules.specs.Book.{undo_to}
 use Rattle.rules.specs.Values.{nat_of}
@@ -9,10 +9,9 @@ use Rattle.bridge.specs.Ready.{Undoable}
 use Rattle.area.proofs.undo_to.Given as goal
 
 abbrev pub invariant-loop-used : goal.invariant-loop-used
-invariant-loop-used l = (length l.area ≡ length l.initial.area)
-    × (Keeps (schema_of l.schema) l.initial.area l.area
-    × (Undoable l.schema l.area
-    × ((l.used ≡ nat_of (get_or l.area 2 (pos 0))) × (undo_to l.to (work_of (schema_of l.schema) l.initial.area) ≡ undo_to l.to (work_of (schema_of l.schema) l.area)))))
-
-abbrev pub decreases-loop-used : goal.decreases-loop-used
-decreases-loop-used l = l.used
+invariant-loop-used l = record {
+  keeps : Keeps (schema_of l.schema.bytes) l.initial.area l.area;
+  undoable : Undoable l.schema.bytes l.area;
+  use_is : l.used ≡ nat_of (get_or l.area 2 (pos 0));
+  rest : undo_to l.to (work_of (schema_of l.schema.bytes) l.initial.area) ≡ undo_to l.to (work_of (schema_of l.schema.bytes) l.area);
+}

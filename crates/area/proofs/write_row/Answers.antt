@@ -1,17 +1,9 @@
-use mathlib.Core.Path.{◌∙◌}
 use native.Mathlib.Omega.{arith}
 use Rattle.schema.proofs.FieldLaws.{room_few}
 use Rattle.area.proofs.Places.{area_long}
 use Rattle.area.proofs.Journal.{next_in_room, place_word, written_is}
 use borrow.Author.Rules.{rules}
 use Rattle.area.proofs.write_row.Goals as goal
-
-pub nat_at-used-requires : goal.nat_at-used-requires
-nat_at-used-requires c = omega (arith, area_long c.requires.0.ready.fit)
-
-pub record_at-at-requires : goal.record_at-at-requires
-record_at-at-requires c =
-    (c.requires.0.ready, omega (arith, c.nat_at-used.ensures, next_in_room c.requires.0 c.requires.1))
 
 pub overflow_mul-t : goal.overflow_mul-t
 overflow_mul-t c =
@@ -26,11 +18,6 @@ set_record-requires c =
     let nat_at = c.nat_at-used in
     let h = next_in_room c.requires.0 c.requires.1 in
     (omega (arith, nat_at.ensures, area_long c.requires.0.ready.fit), (omega (arith, place_word c.requires.0 c.requires.1), omega (arith, nat_at.ensures, room_few _ c.requires.0.ready.accepted)))
-
-pub put_in_table-requires : goal.put_in_table-requires
-put_in_table-requires c =
-    let set_record = c.set_record in
-    (record { accepted = c.requires.0.ready.accepted; table = c.requires.0.table; row = c.requires.0.row }, set_record.auto.area ∙ c.requires.0.ready.fit.size)
 
 pub returns : goal.returns
 returns c =

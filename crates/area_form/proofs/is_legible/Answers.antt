@@ -11,10 +11,10 @@ use Rattle.area_form.proofs.DamageLaws.{Counts, header_counts, legible_not, legi
 use Rattle.area_form.proofs.is_legible.Goals as goal
 use Rattle.area_form.proofs.is_legible.Goals.{Else-not-header_in_range}
 
-header_here : (c : Else-not-header_in_range) → header_in_range (schema_of c.args.schema.now) c.args.area.now ≡ true
+header_here : (c : Else-not-header_in_range) → header_in_range (schema_of c.args.schema.now.bytes) c.args.area.now ≡ true
 header_here c = sym c.header_in_range.ensures ∙ c.if-not-header_in_range.false
 
-counts_here : (c : Else-not-header_in_range) → Counts (schema_of c.args.schema.now) c.args.area.now
+counts_here : (c : Else-not-header_in_range) → Counts (schema_of c.args.schema.now.bytes) c.args.area.now
 counts_here c = header_counts _ _ (header_here c)
 
 pub returns-then-not-header_in_range : goal.returns-then-not-header_in_range
@@ -34,7 +34,7 @@ all_natural-requires c =
 pub all_natural-requires-2 : goal.all_natural-requires-2
 all_natural-requires-2 c =
     let a = c.args in
-    let z = area_is (schema_of a.schema.now) a.area.now c.requires.size in
+    let z = area_is (schema_of a.schema.now.bytes) a.area.now c.requires.size in
     (search rules, omega (arith, z, (counts_here (goal.at.all_natural-requires-2 c).Else-not-header_in_range).used, c.nat_at-used.ensures, c.journal_start-journal.ensures.0))
 
 pub returns : goal.returns
@@ -44,4 +44,4 @@ returns c =
     and_same
     (c.all_natural.ensures ∙ ap (λ n. all_from (natural_part ws 36 33) n 0) c.nat_at-levels.ensures)
     (c.all_natural-2.ensures ∙ ap₂ (λ at n. all_from (natural_part ws at 10) n 0) c.journal_start-journal.ensures.0 c.nat_at-used.ensures)
-    ∙ legible_is (schema_of a.schema.now) ws c.requires.size (header_here (goal.at.returns c).Else-not-header_in_range)
+    ∙ legible_is (schema_of a.schema.now.bytes) ws c.requires.size (header_here (goal.at.returns c).Else-not-header_in_range)

@@ -14,29 +14,29 @@ use Rattle.area_form.proofs.DamageLaws.{opener_is, rise_is, fit_long}
 use Rattle.area_form.proofs.is_undamaged.Goals as goal
 use Rattle.area_form.proofs.is_undamaged.Goals.{Else-not-is_legible}
 
-fit_here : (c : Else-not-is_legible) → Fit (schema_of c.args.schema.now) c.args.area.now
-fit_here c = record { size = c.requires.1; legible_is = sym c.is_legible.ensures ∙ c.if-not-is_legible.false }
+fit_here : (c : Else-not-is_legible) → Fit (schema_of c.args.schema.now.bytes) c.args.area.now
+fit_here c = record { size = c.requires; legible_is = sym c.is_legible.ensures ∙ c.if-not-is_legible.false }
 
 long_here : (c : Else-not-is_legible) → 333 ≤ length c.args.area.now
 long_here c = fit_long (fit_here c)
 
-ready_here : (c : Else-not-is_legible) → Ready c.args.schema.now c.args.area.now
-ready_here c = record { accepted = c.requires.0; fit = fit_here c }
+ready_here : (c : Else-not-is_legible) → Ready c.args.schema.now.bytes c.args.area.now
+ready_here c = record { accepted = c.args.schema.now.accepted; fit = fit_here c }
 
 pub is_legible-requires : goal.is_legible-requires
-is_legible-requires c = record { accepted = c.requires.0; size = c.requires.1 }
+is_legible-requires c = record { accepted = c.args.schema.now.accepted; size = c.requires }
 
 pub returns-then-not-is_legible : goal.returns-then-not-is_legible
 returns-then-not-is_legible c =
     let a = c.args in
-    let e : legible (schema_of a.schema.now) a.area.now ≡ false = sym c.is_legible.ensures ∙ c.if-not-is_legible.true in
+    let e : legible (schema_of a.schema.now.bytes) a.area.now ≡ false = sym c.is_legible.ensures ∙ c.if-not-is_legible.true in
     rw e refl
 
 pub opener_fits-requires : goal.opener_fits-requires
 opener_fits-requires c = omega (arith, long_here (goal.at.opener_fits-requires c).Else-not-is_legible)
 
 pub kept_in_range-requires : goal.kept_in_range-requires
-kept_in_range-requires c = ((ready_here (goal.at.kept_in_range-requires c).Else-not-is_legible).accepted, omega (arith, long_here (goal.at.kept_in_range-requires c).Else-not-is_legible))
+kept_in_range-requires c = omega (arith, long_here (goal.at.kept_in_range-requires c).Else-not-is_legible)
 
 pub saved_in_range-requires : goal.saved_in_range-requires
 saved_in_range-requires c = ready_here (goal.at.saved_in_range-requires c).Else-not-is_legible

@@ -16,7 +16,7 @@ returns c =
     let ws = a.call.now in
     let m = c.nat_at-m.ensures in
     let d = c.nat_at-d.ensures in
-    let columns = and_same c.is_in_columns.ensures (c.is_in_columns-2.ensures ∙ ap (in_columns (schema_of a.schema.now) a.t) d) in
+    let columns = and_same c.is_in_columns.ensures (c.is_in_columns-2.ensures ∙ ap (in_columns (schema_of a.schema.now.bytes) a.place.table) d) in
     let sought = c.value_fits.ensures ∙ ap (λ n. value_fits (bit 0 n) (get_or ws 4 (pos 0))) m in
     let set = c.value_fits-2.ensures ∙ ap (λ n. value_fits (bit 1 n) (get_or ws 6 (pos 0))) m in
     and_same (and_same (and_same columns (ap (λ n. ltb n 4) m)) sought) set

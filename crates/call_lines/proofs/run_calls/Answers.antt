@@ -1,55 +1,53 @@
-use mathlib.Core.Path.{◌≡◌, refl, sym, ◌∙◌, ap}
-use Prim.Native.Nat.{◌-◌, ◌<◌}
-use native.Mathlib.Omega.{arith}
-use lib.ListN.{length}
 use borrow.Author.Rules.{rules}
-use Rattle.call_lines.specs.Runs.{run_at, call_at, call_count}
-use Rattle.call_lines.proofs.RunLaws.{count_below, reached_ran, run_from, run_none, run_step, run_all_lem}
+use Rattle.std.proofs.Common.{◌≡◌, ◌-◌, ◌<◌, length, sym, ◌∙◌, ap, arith}
+use Rattle.lines.proofs.TextLaws.{same_then}
+use Rattle.call_lines.specs.Runs.{call_at, call_count, run_at}
+use Rattle.call_lines.proofs.RunLaws.{count_up, one_call, reached_ran, run_from, run_none, run_step, run_all_lem}
 use Rattle.call_lines.proofs.run_calls.Goals as goal
 
 pub loop-i-init : goal.loop-i-init
 loop-i-init c =
-    let start = c in
-    let a = start.args in
-    let s = a.schema.now in
+    let a = c.args in
     let bytes = a.bytes.now in
-    let r = run_at a.area.now a.progress a.out.now in
-    let all : c.call_count-n.result - 0 ≡ call_count (length bytes) = omega (arith, c.call_count-n.ensures) in
-    (ap (λ m. run_from s bytes m 0 r) all ∙ run_all_lem s bytes r, omega arith, omega arith, refl, refl, start.requires.0)
+    let r = run_at a.area.now a.progress.now in
+    let all : c.div_ceil-i-end.result - 0 ≡ call_count (length bytes) = omega (arith, c.div_ceil-i-end.ensures, count_up (length bytes)) in
+    record {
+      led = ap (λ m. run_from a.schema.now bytes m 0 r) all ∙ run_all_lem a.schema.now bytes r;
+      used = omega arith;
+      same = search rules;
+      reached = c.requires.0;
+    }
 
-pub run_call-done-requires : goal.run_call-done-requires
-run_call-done-requires c =
-    let at_loop = c in
-    let counted = at_loop in
-    let start = counted in
-    let bytes = start.args.bytes.now in
-    let l = at_loop.loop-i in
-    let below : l.i < call_count (length bytes) = omega (arith, c.loop-i-test.true, counted.call_count-n.ensures) in
-    (l.invariant.5, count_below (length bytes) l.i below, omega (arith, below, l.invariant.2, l.invariant.4))
+pub report-requires : goal.report-requires
+report-requires c =
+    let l = c.loop-i in
+    let below : l.i < call_count (length c.args.bytes.now) = omega (arith, c.loop-i-test.true, c.div_ceil-i-end.ensures, count_up (length c.args.bytes.now)) in
+    omega (arith, below, l.invariant.used, l.invariant.same.size, c.requires.1)
 
 pub loop-i-preserved : goal.loop-i-preserved
 loop-i-preserved c =
-    let test = c in
-    let at_loop = test in
-    let counted = at_loop in
-    let start = counted in
-    let a = start.args in
-    let l = at_loop.loop-i in
-    let r = run_at l.area l.done l.out in
-    let inside = test.loop-i-test.true in
-    let told = c.run_call-done.ensures in
-    let step = run_step a.schema.now a.bytes.now counted.call_count-n.result l.i r inside told.0 in
-    (step ∙ l.invariant.0, omega (arith, inside), omega (arith, told.1, l.invariant.2), search rules, search rules, reached_ran (call_at a.bytes.now l.i) r l.invariant.5 told.0)
+    let s = c.args.schema.now in
+    let bytes = c.args.bytes.now in
+    let l = c.loop-i in
+    let r = run_at l.area l.progress in
+    let told = one_call s (call_at bytes l.i) r c.call_at-answer.ensures c.report.ensures.counted c.report.ensures.put.written in
+    record {
+      led = run_step s bytes c.div_ceil-i-end.result l.i r c.loop-i-test.true told ∙ l.invariant.led;
+      used = omega (arith, c.report.ensures.used, l.invariant.used);
+      same = same_then l.invariant.same c.report.ensures.put.same;
+      reached = reached_ran (call_at bytes l.i) r l.invariant.reached told;
+    }
 
-pub returns : goal.returns
-returns c =
-    let at_loop = c in
-    let counted = at_loop in
-    let start = counted in
-    let s = start.args.schema.now in
-    let bytes = start.args.bytes.now in
-    let l = at_loop.loop-i in
-    let r = run_at l.area l.done l.out in
-    let none : counted.call_count-n.result - l.i ≡ 0 = omega (arith, c.loop-i-test.false) in
-    let rest = ap (λ m. run_from s bytes m l.i r) none ∙ run_none s bytes l.i r in
-    (sym rest ∙ l.invariant.0, omega (arith, l.invariant.1, l.invariant.2, counted.call_count-n.ensures), l.invariant.5)
+pub returns-clause-ran : goal.returns-clause-ran
+returns-clause-ran c =
+    let s = c.args.schema.now in
+    let bytes = c.args.bytes.now in
+    let l = c.loop-i in
+    let r = run_at l.area l.progress in
+    let none : c.div_ceil-i-end.result - l.i ≡ 0 = omega (arith, c.loop-i-test.false) in
+    sym (ap (λ m. run_from s bytes m l.i r) none ∙ run_none s bytes l.i r) ∙ l.invariant.led
+
+pub returns-clause-used : goal.returns-clause-used
+returns-clause-used c =
+    let l = c.loop-i in
+    omega (arith, l.auto.i-end, l.invariant.used, c.div_ceil-i-end.ensures, count_up (length c.args.bytes.now), c.requires.1)

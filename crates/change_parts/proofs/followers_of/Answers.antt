@@ -15,4 +15,4 @@ sought_key-key-requires c =
 pub returns : goal.returns
 returns c =
     let a = c.args in
-    followers_are a.schema.now a.k a.old a.new c.key_pairs-pairs.ensures c.requires.0.plain c.child-t.ensures.0 c.rows_of-rows.ensures c.sought_key-key.ensures c.action_of-action.ensures
+    followers_are a.schema.now.bytes a.k a.old a.new c.key_pairs-pairs.ensures c.requires.0.plain c.child-t.ensures.0 c.rows_of-rows.ensures c.sought_key-key.ensures c.action_of-action.ensures

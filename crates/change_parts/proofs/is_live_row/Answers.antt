@@ -7,4 +7,4 @@ use Rattle.change_parts.proofs.is_live_row.Goals as goal
 pub returns : goal.returns
 returns c =
     c.image_live.ensures
-    ∙ law.row_live c.args.t c.args.r (work_of (schema_of c.args.schema.now) c.args.area.now).tabs c.image_of-image.ensures
+    ∙ law.row_live c.args.t c.args.r (work_of (schema_of c.args.schema.now.bytes) c.args.area.now).tabs c.image_of-image.ensures

@@ -16,7 +16,7 @@ pub key_changes-requires : goal.key_changes-requires
 key_changes-requires c = window_in _ _ _ c.window_key-key.ensures
 
 -- the key fires where its columns change
-fires_is : (c : After-key_changes) → c.key_changes.result ≡ fires c.args.new c.args.t c.args.old (key_of (schema_of c.args.schema.now) c.args.k)
+fires_is : (c : After-key_changes) → c.key_changes.result ≡ fires c.args.new c.args.t c.args.old (key_of (schema_of c.args.schema.now.bytes) c.args.k)
 fires_is c = c.key_changes.ensures ∙ changes_fires _ _ _ c.window_key-key.ensures (sym c.parent.ensures ∙ c.if-parent-t.false) _ _
 
 pub returns-then-not-key_changes : goal.returns-then-not-key_changes

@@ -6,6 +6,7 @@ use native.Mathlib.Omega.{arith}
 use borrow.Author.Rules.{rules}
 use lib.IntN.{ℤ}
 use lib.ListN.{length}
+use Rattle.std.proofs.lemmas.Result.{err_from_is_err_and}
 use Rattle.schema.specs.Bytes.{bit}
 use Rattle.schema.specs.Fields.{schema_of}
 use Rattle.schema.specs.Records.{key_of}
@@ -76,7 +77,7 @@ key_turn-followers_of-f-requires t c = (plain_here c.requires.0.ready c.requires
 
 pub key_turn-row_walk-requires : goal.key_turn-row_walk-requires
 key_turn-row_walk-requires t c =
-    let sc = schema_of c.args.schema.now in
+    let sc = schema_of c.args.schema.now.bytes in
     let plain = plain_here c.requires.0.ready c.requires.1.0 c.requires.1.1 c.bit_of.ensures c.if-not-bit_of.false c.bit_of-2.ensures c.if-bit_of.false in
     let on = sym c.fires.ensures ∙ c.if-not-fires.false in
     let width = same_width _ c.requires.0.ready.accepted c.args.k c.requires.1.1 in
@@ -89,49 +90,44 @@ key_turn-returns t c =
     let width = same_width _ c.requires.0.ready.accepted c.args.k c.requires.1.1 in
     (c.row_walk.ensures.0 ∙ law.key_on _ _ _ _ _ _ _ on plain.plain (sym width) c.followers_of-f.ensures.1, c.row_walk.ensures.1)
 
-pub key_walk-key_count-n-requires : goal.key_walk-key_count-n-requires
-key_walk-key_count-n-requires t c = c.requires.0.ready.accepted
-
 pub key_walk-loop-k-init : goal.key_walk-loop-k-init
 key_walk-loop-k-init t c = (search rules, (refl, (follows_refl c.requires.0.ready.fit, refl)))
 
 pub key_walk-key_turn-requires : goal.key_walk-key_turn-requires
 key_walk-key_turn-requires t c =
     let a = c.args in
-    let sc = schema_of a.schema.now in
+    let sc = schema_of a.schema.now.bytes in
     let l = c.loop-k in
-    let lt : l.k < length sc.keys = omega (arith, c.key_count-n.ensures.0, c.loop-k-test.true) in
+    let lt : l.k < length sc.keys = omega (arith, c.key_count-k-end.ensures.0, c.loop-k-test.true) in
     (search rules, (tallied_after c.requires.0 l.invariant.1.1.0, (c.requires.1, lt)))
 
-pub key_walk-returns-in-Fail : goal.key_walk-returns-in-Fail
-key_walk-returns-in-Fail t c =
+pub key_walk-returns-in_err-key_turn : goal.key_walk-returns-in_err-key_turn
+key_walk-returns-in_err-key_turn t c =
     let l = c.loop-k in
     let a = c.args in
-    let sc = schema_of a.schema.now in
-    let lt : l.k < length sc.keys = omega (arith, c.key_count-n.ensures.0, c.loop-k-test.true) in
-    (sym (l.invariant.1.1.1 ∙ law.keys_refused (change a.left sc) sc a.new a.t a.old l.k _ lt _ _ c.key_turn.ensures.0 c.in-Fail.is), follows_trans l.invariant.1.1.0 c.key_turn.ensures.1)
+    let sc = schema_of a.schema.now.bytes in
+    let lt : l.k < length sc.keys = omega (arith, c.key_count-k-end.ensures.0, c.loop-k-test.true) in
+    let p = err_from_is_err_and c.from_residual.result c.from_residual.ensures.1 in
+    rw (p.1, p.2) (sym (l.invariant.1.1.1 ∙ law.keys_refused (change a.left sc) sc a.new a.t a.old l.k _ lt _ _ c.key_turn.ensures.0 c.in_err-key_turn.was), follows_trans l.invariant.1.1.0 c.key_turn.ensures.1)
 
 pub key_walk-loop-k-preserved : goal.key_walk-loop-k-preserved
 key_walk-loop-k-preserved t c =
     let l = c.loop-k in
     let a = c.args in
-    let sc = schema_of a.schema.now in
-    let lt : l.k < length sc.keys = omega (arith, c.key_count-n.ensures.0, c.loop-k-test.true) in
-    (search rules, (search rules, (follows_trans l.invariant.1.1.0 c.key_turn.ensures.1, l.invariant.1.1.1 ∙ law.keys_done (change a.left sc) sc a.new a.t a.old l.k _ lt _ _ c.key_turn.ensures.0 c.in-Pass.is)))
+    let sc = schema_of a.schema.now.bytes in
+    let lt : l.k < length sc.keys = omega (arith, c.key_count-k-end.ensures.0, c.loop-k-test.true) in
+    (search rules, (search rules, (follows_trans l.invariant.1.1.0 c.key_turn.ensures.1, l.invariant.1.1.1 ∙ law.keys_done (change a.left sc) sc a.new a.t a.old l.k _ lt _ _ c.key_turn.ensures.0 c.in_ok-key_turn.was)))
 
 pub key_walk-returns : goal.key_walk-returns
 key_walk-returns t c =
     let a = c.args in
-    let sc = schema_of a.schema.now in
+    let sc = schema_of a.schema.now.bytes in
     let l = c.loop-k in
-    let e : length sc.keys ≤ l.k = omega (arith, c.key_count-n.ensures.0, c.loop-k-test.false) in
+    let e : length sc.keys ≤ l.k = omega (arith, c.key_count-k-end.ensures.0, c.loop-k-test.false) in
     (sym (l.invariant.1.1.1 ∙ law.keys_none _ _ _ _ _ _ _ e), l.invariant.1.1.0)
 
 pub row_change-returns-then-left-eq0 : goal.row_change-returns-then-left-eq0
 row_change-returns-then-left-eq0 t c = (law.change_none _ _ _ _ _ _ c.if-left-eq0.true, follows_refl c.requires.tallied.ready.fit)
-
-pub row_change-keys_of-keys-requires : goal.row_change-keys_of-keys-requires
-row_change-keys_of-keys-requires t c = c.requires.tallied.ready.accepted
 
 pub row_change-admits-requires : goal.row_change-admits-requires
 row_change-admits-requires t c =
@@ -140,23 +136,24 @@ row_change-admits-requires t c =
 
 pub row_change-write_tallied-old-requires : goal.row_change-write_tallied-old-requires
 row_change-write_tallied-old-requires t c =
-    (c.requires, (c.keys_of-keys.ensures, law.change_room _ _ _ _ _ c.args.left c.if-left-eq0.false _ c.admits.ensures c.in-Pass.is))
+    (c.requires, (c.keys_of-keys.ensures, law.change_room _ _ _ _ _ c.args.left c.if-left-eq0.false _ c.admits.ensures c.in_ok-admits.was))
 
 pub row_change-key_walk-requires : goal.row_change-key_walk-requires
 row_change-key_walk-requires t c =
     (omega (arith, c.decreases, c.if-left-eq0.false), (tallied_after c.requires.tallied c.write_tallied-old.ensures.1.1, c.keys_of-keys.ensures))
 
-pub row_change-returns-in-Fail : goal.row_change-returns-in-Fail
-row_change-returns-in-Fail t c =
-    (law.change_refused _ _ _ _ _ _ c.if-left-eq0.false _ c.admits.ensures c.in-Fail.is, follows_refl c.requires.tallied.ready.fit)
+pub row_change-returns-in_err-admits : goal.row_change-returns-in_err-admits
+row_change-returns-in_err-admits t c =
+    let p = err_from_is_err_and c.from_residual.result c.from_residual.ensures.1 in
+    rw (p.1, p.2) (law.change_refused _ _ _ _ _ _ c.if-left-eq0.false _ c.admits.ensures c.in_err-admits.was, follows_refl c.requires.tallied.ready.fit)
 
-pub row_change-returns-in-Pass : goal.row_change-returns-in-Pass
-row_change-returns-in-Pass t c =
+pub row_change-returns : goal.row_change-returns
+row_change-returns t c =
     let a = c.args in
-    let sc = schema_of a.schema.now in (
+    let sc = schema_of a.schema.now.bytes in (
       c.key_walk.ensures.0
           ∙ ap₂ (λ (x : List ℤ) (w : Work). actions (change (a.left - 1) sc) sc a.image a.t x sc.keys w) c.write_tallied-old.ensures.0 c.write_tallied-old.ensures.1.0
-          ∙ law.change_more _ _ _ _ _ _ c.if-left-eq0.false _ c.admits.ensures c.in-Pass.is,
+          ∙ law.change_more _ _ _ _ _ _ c.if-left-eq0.false _ c.admits.ensures c.in_ok-admits.was,
       follows_trans c.write_tallied-old.ensures.1.1 c.key_walk.ensures.1,
     )
 
@@ -165,18 +162,6 @@ row_turn-child_after-y-requires t c = (law.at_placed c.requires.0, c.requires.1.
 
 pub row_turn-row_change-requires : goal.row_turn-row_change-requires
 row_turn-row_change-requires t c = (search rules, c.requires.0)
-
-pub row_turn-child_after-y-requires-in-SetDefault : goal.row_turn-child_after-y-requires-in-SetDefault
-row_turn-child_after-y-requires-in-SetDefault t c = (law.at_placed c.requires.0, c.requires.1.0)
-
-pub row_turn-row_change-requires-in-SetDefault : goal.row_turn-row_change-requires-in-SetDefault
-row_turn-row_change-requires-in-SetDefault t c = (search rules, c.requires.0)
-
-pub row_turn-child_after-y-requires-in-Cascade : goal.row_turn-child_after-y-requires-in-Cascade
-row_turn-child_after-y-requires-in-Cascade t c = (law.at_placed c.requires.0, c.requires.1.0)
-
-pub row_turn-row_change-requires-in-Cascade : goal.row_turn-row_change-requires-in-Cascade
-row_turn-row_change-requires-in-Cascade t c = (search rules, c.requires.0)
 
 pub row_turn-returns-in-NoAction : goal.row_turn-returns-in-NoAction
 row_turn-returns-in-NoAction t c = (law.row_none _ _ _ _ _ _ _ _ c.requires.1.0.action_is c.in-NoAction.is, follows_refl c.requires.0.tallied.ready.fit)
@@ -187,81 +172,68 @@ row_turn-returns-in-Restrict t c = (law.row_restrict _ _ _ _ _ _ _ _ c.requires.
 pub row_turn-returns-in-SetNull : goal.row_turn-returns-in-SetNull
 row_turn-returns-in-SetNull t c =
     let a = c.args in
-    let sc = schema_of a.schema.now in
-    (c.row_change.ensures.0 ∙ law.row_null (change a.left sc) sc a.new (key_of sc a.k) a.j (image a.f.table a.j (work_of sc a.area.now).tabs) (work_of sc a.area.now) _ c.requires.1.0.action_is a.f.table c.requires.1.0.table_is _ c.in-SetNull.is c.child_after-y.ensures, c.row_change.ensures.1)
+    let sc = schema_of a.schema.now.bytes in
+    (c.row_change.ensures.0 ∙ law.row_given (change a.left sc) sc a.new (key_of sc a.k) a.j (image a.f.table a.j (work_of sc a.area.now).tabs) (work_of sc a.area.now) _ c.requires.1.0.action_is a.f.table c.requires.1.0.table_is _ c.in-SetNull.is c.child_after-y.ensures, c.row_change.ensures.1)
 
-pub row_turn-returns-in-SetDefault : goal.row_turn-returns-in-SetDefault
-row_turn-returns-in-SetDefault t c =
+pub row_walk-loop-i-init : goal.row_walk-loop-i-init
+row_walk-loop-i-init t c =
     let a = c.args in
-    let sc = schema_of a.schema.now in
-    (c.row_change-in-SetDefault.ensures.0 ∙ law.row_default (change a.left sc) sc a.new (key_of sc a.k) a.j (image a.f.table a.j (work_of sc a.area.now).tabs) (work_of sc a.area.now) _ c.requires.1.0.action_is a.f.table c.requires.1.0.table_is _ c.in-SetDefault.is c.child_after-y-in-SetDefault.ensures, c.row_change-in-SetDefault.ensures.1)
-
-pub row_turn-returns-in-Cascade : goal.row_turn-returns-in-Cascade
-row_turn-returns-in-Cascade t c =
-    let a = c.args in
-    let sc = schema_of a.schema.now in
-    (c.row_change-in-Cascade.ensures.0 ∙ law.row_cascade (change a.left sc) sc a.new (key_of sc a.k) a.j (image a.f.table a.j (work_of sc a.area.now).tabs) (work_of sc a.area.now) _ c.requires.1.0.action_is a.f.table c.requires.1.0.table_is _ c.in-Cascade.is c.child_after-y-in-Cascade.ensures, c.row_change-in-Cascade.ensures.1)
-
-pub row_walk-loop-j-init : goal.row_walk-loop-j-init
-row_walk-loop-j-init t c =
-    let a = c.args in
-    let sc = schema_of a.schema.now in
-    let rn = rows_many a.schema.now a.area.now c.requires.0.ready a.k a.new a.f c.requires.1.0 in
+    let rn = rows_many a.schema.now.bytes a.area.now c.requires.0.ready a.k a.new a.f c.requires.1.0 in
     (search rules, (refl, (follows_refl c.requires.0.ready.fit, law.rows_start _ _ _ _ _ _ _ rn)))
 
-pub row_walk-first_with_key-i-requires : goal.row_walk-first_with_key-i-requires
-row_walk-first_with_key-i-requires t c =
+pub row_walk-first_with_key-requires : goal.row_walk-first_with_key-requires
+row_walk-first_with_key-requires t c =
     let a = c.args in
-    let sc = schema_of a.schema.now in
-    let l = c.loop-j in
-    let ready = search_ready a.schema.now _ (tallied_after c.requires.0 l.invariant.1.1.0).ready a.k a.new a.f c.requires.1.0 in
+    let l = c.loop-i in
+    let ready = search_ready a.schema.now.bytes _ (tallied_after c.requires.0 l.invariant.1.1.0).ready a.k a.new a.f c.requires.1.0 in
     ((ready.0, l.invariant.0), ready.1)
-
-pub row_walk-returns-then-n-i : goal.row_walk-returns-then-n-i
-row_walk-returns-then-n-i t c =
-    let a = c.args in
-    let sc = schema_of a.schema.now in
-    let l = c.loop-j in
-    let found = found_first a.schema.now _ (tallied_after c.requires.0 l.invariant.1.1.0).ready a.k a.new a.f c.requires.1.0 c.first_with_key-i.ensures in
-    (sym (l.invariant.1.1.1 ∙ law.rows_past (change a.left sc) sc a.new (key_of sc a.k) (sought_values a.f.key) a.f.rows.count l.j c.first_with_key-i.result _ found.low found.high c.if-n-i.true found.skipped), l.invariant.1.1.0)
 
 pub row_walk-row_turn-requires : goal.row_walk-row_turn-requires
 row_walk-row_turn-requires t c =
     let a = c.args in
-    let sc = schema_of a.schema.now in
-    let l = c.loop-j in
-    let lt : c.first_with_key-i.result < a.f.rows.count = omega (arith, c.if-n-i.false) in
-    let set = tallied_after c.requires.0 l.invariant.1.1.0 in
-    let found = found_first a.schema.now _ set.ready a.k a.new a.f c.requires.1.0 c.first_with_key-i.ensures in
-    let unserved = law.row_unserved (key_of sc a.k) (sought_values a.f.key) a.new c.requires.1.1 _ c.first_with_key-i.result a.f.table c.requires.1.0.table_is (found.found lt) in
-    (search rules, (record { tallied = set; table = table_there a.schema.now _ set.ready a.k a.new a.f c.requires.1.0; row = omega (arith, lt, c.requires.1.0.stand.count_is) }, (c.requires.1.0, unserved)))
+    let sc = schema_of a.schema.now.bytes in
+    let next = rw c.in-Some.is at c.first_with_key.ensures in
+    let set = tallied_after c.requires.0 c.loop-i.invariant.1.1.0 in
+    let found = found_first a.schema.now.bytes _ set.ready a.k a.new a.f c.requires.1.0 next.1 in
+    let unserved = law.row_unserved (key_of sc a.k) (sought_values a.f.key) a.new c.requires.1.1 _ c.in-Some.i a.f.table c.requires.1.0.table_is (found.found next.0) in
+    (search rules, (record { tallied = set; table = table_there a.schema.now.bytes _ set.ready a.k a.new a.f c.requires.1.0; row = omega (arith, next.0, c.requires.1.0.stand.count_is) }, (c.requires.1.0, unserved)))
 
-pub row_walk-returns-in-Fail : goal.row_walk-returns-in-Fail
-row_walk-returns-in-Fail t c =
+pub row_walk-returns-in_err-row_turn : goal.row_walk-returns-in_err-row_turn
+row_walk-returns-in_err-row_turn t c =
     let a = c.args in
-    let sc = schema_of a.schema.now in
-    let l = c.loop-j in
-    let lt : c.first_with_key-i.result < a.f.rows.count = omega (arith, c.if-n-i.false) in
-    let found = found_first a.schema.now _ (tallied_after c.requires.0 l.invariant.1.1.0).ready a.k a.new a.f c.requires.1.0 c.first_with_key-i.ensures in
-    (sym (l.invariant.1.1.1 ∙ law.rows_refused (change a.left sc) sc a.new (key_of sc a.k) (sought_values a.f.key) a.f.rows.count l.j c.first_with_key-i.result _ found.low lt found.skipped (found.found lt) a.f.table c.requires.1.0.table_is _ _ c.row_turn.ensures.0 c.in-Fail.is), follows_trans l.invariant.1.1.0 c.row_turn.ensures.1)
+    let sc = schema_of a.schema.now.bytes in
+    let l = c.loop-i in
+    let next = rw c.in-Some.is at c.first_with_key.ensures in
+    let found = found_first a.schema.now.bytes _ (tallied_after c.requires.0 l.invariant.1.1.0).ready a.k a.new a.f c.requires.1.0 next.1 in
+    let p = err_from_is_err_and c.from_residual.result c.from_residual.ensures.1 in
+    rw (p.1, p.2) (sym (l.invariant.1.1.1 ∙ law.rows_refused (change a.left sc) sc a.new (key_of sc a.k) (sought_values a.f.key) a.f.rows.count l.j c.in-Some.i _ found.low next.0 found.skipped (found.found next.0) a.f.table c.requires.1.0.table_is _ _ c.row_turn.ensures.0 c.in_err-row_turn.was), follows_trans l.invariant.1.1.0 c.row_turn.ensures.1)
 
 pub row_walk-overflow_add-j : goal.row_walk-overflow_add-j
 row_walk-overflow_add-j t c =
     let a = c.args in
-    let sc = schema_of a.schema.now in
-    let l = c.loop-j in
-    let lt : c.first_with_key-i.result < a.f.rows.count = omega (arith, c.if-n-i.false) in
-    let ready = search_ready a.schema.now _ (tallied_after c.requires.0 l.invariant.1.1.0).ready a.k a.new a.f c.requires.1.0 in
-    omega (arith, lt, ready.0.few)
+    let next = rw c.in-Some.is at c.first_with_key.ensures in
+    let ready = search_ready a.schema.now.bytes _ (tallied_after c.requires.0 c.loop-i.invariant.1.1.0).ready a.k a.new a.f c.requires.1.0 in
+    omega (arith, next.0, ready.0.few)
 
-pub row_walk-loop-j-preserved : goal.row_walk-loop-j-preserved
-row_walk-loop-j-preserved t c =
+pub row_walk-loop-i-smaller : goal.row_walk-loop-i-smaller
+row_walk-loop-i-smaller t c =
+    let next = rw c.in-Some.is at c.first_with_key.ensures in
+    omega (arith, next.0, next.1.low)
+
+pub row_walk-loop-i-preserved : goal.row_walk-loop-i-preserved
+row_walk-loop-i-preserved t c =
     let a = c.args in
-    let sc = schema_of a.schema.now in
-    let l = c.loop-j in
-    let lt : c.first_with_key-i.result < a.f.rows.count = omega (arith, c.if-n-i.false) in
-    let found = found_first a.schema.now _ (tallied_after c.requires.0 l.invariant.1.1.0).ready a.k a.new a.f c.requires.1.0 c.first_with_key-i.ensures in
-    (omega (arith, lt), (search rules, (follows_trans l.invariant.1.1.0 c.row_turn.ensures.1, l.invariant.1.1.1 ∙ law.rows_done (change a.left sc) sc a.new (key_of sc a.k) (sought_values a.f.key) a.f.rows.count l.j c.first_with_key-i.result _ found.low lt found.skipped (found.found lt) a.f.table c.requires.1.0.table_is _ _ c.row_turn.ensures.0 c.in-Pass.is)))
+    let sc = schema_of a.schema.now.bytes in
+    let l = c.loop-i in
+    let next = rw c.in-Some.is at c.first_with_key.ensures in
+    let found = found_first a.schema.now.bytes _ (tallied_after c.requires.0 l.invariant.1.1.0).ready a.k a.new a.f c.requires.1.0 next.1 in
+    (omega (arith, next.0), (search rules, (follows_trans l.invariant.1.1.0 c.row_turn.ensures.1, l.invariant.1.1.1 ∙ law.rows_done (change a.left sc) sc a.new (key_of sc a.k) (sought_values a.f.key) a.f.rows.count l.j c.in-Some.i _ found.low next.0 found.skipped (found.found next.0) a.f.table c.requires.1.0.table_is _ _ c.row_turn.ensures.0 c.in_ok-row_turn.was)))
 
 pub row_walk-returns : goal.row_walk-returns
-row_walk-returns t c = let l = c.loop-j in (sym (l.invariant.1.1.1 ∙ law.rows_none _ _ _ _ _ _ _ _ (omega (arith, c.loop-j-test.false))), l.invariant.1.1.0)
+row_walk-returns t c =
+    let a = c.args in
+    let sc = schema_of a.schema.now.bytes in
+    let l = c.loop-i in
+    let none = rw c.in_default.is at c.first_with_key.ensures in
+    let found = found_first a.schema.now.bytes _ (tallied_after c.requires.0 l.invariant.1.1.0).ready a.k a.new a.f c.requires.1.0 none in
+    (sym (l.invariant.1.1.1 ∙ law.rows_past (change a.left sc) sc a.new (key_of sc a.k) (sought_values a.f.key) a.f.rows.count l.j a.f.rows.count _ found.low found.high (omega arith) found.skipped), l.invariant.1.1.0)

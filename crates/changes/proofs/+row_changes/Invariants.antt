@@ -27,13 +27,10 @@ abbrev pub decreases-row_walk : goal.decreases-row_walk
 decreases-row_walk l = 5 * l.left + 2
 
 abbrev pub invariant-key_walk-loop-k : goal.invariant-key_walk-loop-k
-invariant-key_walk-loop-k l = (l.k ≤ l.n) × ((length l.area ≡ length l.initial.area) × (Follows (schema_of l.schema) l.initial.tally l.initial.area l.tally l.area × (actions (change l.left (schema_of l.schema)) (schema_of l.schema) l.new l.t l.old (schema_of l.schema).keys (work_of (schema_of l.schema) l.initial.area) ≡ actions (change l.left (schema_of l.schema)) (schema_of l.schema) l.new l.t l.old (drop l.k (schema_of l.schema).keys) (work_of (schema_of l.schema) l.area))))
+invariant-key_walk-loop-k l = (l.k ≤ l.k-end) × ((length l.area ≡ length l.initial.area) × (Follows (schema_of l.schema.bytes) l.initial.tally l.initial.area l.tally l.area × (actions (change l.left (schema_of l.schema.bytes)) (schema_of l.schema.bytes) l.new l.t l.old (schema_of l.schema.bytes).keys (work_of (schema_of l.schema.bytes) l.initial.area) ≡ actions (change l.left (schema_of l.schema.bytes)) (schema_of l.schema.bytes) l.new l.t l.old (drop l.k (schema_of l.schema.bytes).keys) (work_of (schema_of l.schema.bytes) l.area))))
 
-abbrev pub decreases-key_walk-loop-k : goal.decreases-key_walk-loop-k
-decreases-key_walk-loop-k l = l.n - l.k
+abbrev pub invariant-row_walk-loop-i : goal.invariant-row_walk-loop-i
+invariant-row_walk-loop-i l = (l.j ≤ l.f.rows.count) × ((length l.area ≡ length l.initial.area) × (Follows (schema_of l.schema.bytes) l.initial.tally l.initial.area l.tally l.area × (children_by_values (change l.left (schema_of l.schema.bytes)) (schema_of l.schema.bytes) l.new (key_of (schema_of l.schema.bytes) l.k) (sought_values l.f.key) (up_from 0 (table_of (schema_of l.schema.bytes) (key_of (schema_of l.schema.bytes) l.k).child).rows) (work_of (schema_of l.schema.bytes) l.initial.area) ≡ children_by_values (change l.left (schema_of l.schema.bytes)) (schema_of l.schema.bytes) l.new (key_of (schema_of l.schema.bytes) l.k) (sought_values l.f.key) (up_from l.j (l.f.rows.count - l.j)) (work_of (schema_of l.schema.bytes) l.area))))
 
-abbrev pub invariant-row_walk-loop-j : goal.invariant-row_walk-loop-j
-invariant-row_walk-loop-j l = (l.j ≤ l.n) × ((length l.area ≡ length l.initial.area) × (Follows (schema_of l.schema) l.initial.tally l.initial.area l.tally l.area × (children_by_values (change l.left (schema_of l.schema)) (schema_of l.schema) l.new (key_of (schema_of l.schema) l.k) (sought_values l.f.key) (up_from 0 (table_of (schema_of l.schema) (key_of (schema_of l.schema) l.k).child).rows) (work_of (schema_of l.schema) l.initial.area) ≡ children_by_values (change l.left (schema_of l.schema)) (schema_of l.schema) l.new (key_of (schema_of l.schema) l.k) (sought_values l.f.key) (up_from l.j (l.n - l.j)) (work_of (schema_of l.schema) l.area))))
-
-abbrev pub decreases-row_walk-loop-j : goal.decreases-row_walk-loop-j
-decreases-row_walk-loop-j l = l.n - l.j
+abbrev pub decreases-row_walk-loop-i : goal.decreases-row_walk-loop-i
+decreases-row_walk-loop-i l = l.f.rows.count - l.j

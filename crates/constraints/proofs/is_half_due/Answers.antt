@@ -10,11 +10,11 @@ use Rattle.constraints.proofs.is_half_due.Goals as goal
 pub returns-in-Simple : goal.returns-in-Simple
 unfolding half_due
 returns-in-Simple c =
-    let match_is : Simple ≡ (key_of (schema_of c.args.schema.now) c.args.k).match = sym c.in-Simple.is ∙ c.key_match.ensures in
+    let match_is : Simple ≡ (key_of (schema_of c.args.schema.now.bytes) c.args.k).match = sym c.in-Simple.is ∙ c.key_match.ensures in
     ap (λ (m : Match). half_due m (take c.args.n c.args.cs) c.args.image) match_is
 
 pub returns-in-Full : goal.returns-in-Full
 unfolding half_due
 returns-in-Full c =
-    let match_is : Full ≡ (key_of (schema_of c.args.schema.now) c.args.k).match = sym c.in-Full.is ∙ c.key_match.ensures in
+    let match_is : Full ≡ (key_of (schema_of c.args.schema.now.bytes) c.args.k).match = sym c.in-Full.is ∙ c.key_match.ensures in
     c.image_half_key.ensures ∙ ap (λ (m : Match). half_due m (take c.args.n c.args.cs) c.args.image) match_is

@@ -12,7 +12,7 @@ sought_key-key-requires c =
 
 pub any_with_key-requires : goal.any_with_key-requires
 any_with_key-requires c =
-    let b = c.args.schema.now in
+    let b = c.args.schema.now.bytes in
     let columns = c.requires.1.0.0.columns in
     let there = parent_table b c.args.k columns.parents.whole_key in
     let stands = standing b c.args.area.now c.requires.0.0 _ there c.args.parents c.requires.1.1 in
@@ -20,7 +20,7 @@ any_with_key-requires c =
 
 pub returns : goal.returns
 returns c =
-    let b = c.args.schema.now in
+    let b = c.args.schema.now.bytes in
     let K = key_of (schema_of b) c.args.k in
     let columns = c.requires.1.0.0.columns in
     let rows = rows_are b c.args.area.now c.requires.0.0 K.parent (parent_table b c.args.k columns.parents.whole_key) c.args.parents c.requires.1.1 in

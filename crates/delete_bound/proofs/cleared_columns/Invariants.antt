@@ -1,4 +1,4 @@
-use Prim.Native.Nat.{ℕ, ◌-◌, ◌≤◌}
+use Prim.Native.Nat.{ℕ}
 use Rattle.schema.specs.Marks.{Marks}
 use Rattle.schema.specs.Fields.{schema_of}
 use Rattle.rules.specs.Lists.{any}
@@ -6,7 +6,4 @@ use Rattle.rules.specs.DeleteBound.{clears}
 use Rattle.delete_bound.proofs.cleared_columns.Given as goal
 
 abbrev pub invariant-loop-c : goal.invariant-loop-c
-invariant-loop-c l = (l.c ≤ l.n) × Marks (λ (i : ℕ). any (clears l.t i) (schema_of l.schema).keys) l.c l.cleared
-
-abbrev pub decreases-loop-c : goal.decreases-loop-c
-decreases-loop-c l = l.n - l.c
+invariant-loop-c l = Marks (λ (i : ℕ). any (clears l.t i) (schema_of l.schema.bytes).keys) l.c l.cleared

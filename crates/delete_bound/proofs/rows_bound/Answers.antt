@@ -6,20 +6,20 @@ use Rattle.delete_bound.proofs.TableBounds.{left_none, left_more, row_here}
 use Rattle.delete_bound.proofs.rows_bound.Goals as goal
 
 pub loop-j-init : goal.loop-j-init
-loop-j-init c = (search rules, (search rules, zero-add _))
+loop-j-init c = (search rules, zero-add _)
 
 pub overflow_mul-j : goal.overflow_mul-j
 overflow_mul-j c =
     let here = row_here _ _ c.requires.0 _ c.requires.1 _ c.rows_of-table.ensures c.loop-j.j c.loop-j-test.true in
     omega (arith, here.within)
 
-pub overflow_add-start : goal.overflow_add-start
-overflow_add-start c =
+pub overflow_add-table : goal.overflow_add-table
+overflow_add-table c =
     let here = row_here _ _ c.requires.0 _ c.requires.1 _ c.rows_of-table.ensures c.loop-j.j c.loop-j-test.true in
     omega (arith, here.within)
 
-pub nat_at-requires : goal.nat_at-requires
-nat_at-requires c =
+pub nat_at-state-requires : goal.nat_at-state-requires
+nat_at-state-requires c =
     let here = row_here _ _ c.requires.0 _ c.requires.1 _ c.rows_of-table.ensures c.loop-j.j c.loop-j-test.true in
     omega (arith, here.within, here.some)
 
@@ -35,8 +35,8 @@ pub loop-j-preserved : goal.loop-j-preserved
 loop-j-preserved c =
     let l = c.loop-j in
     let marks = c.cleared_columns-cleared.ensures in
-    let more = left_more _ _ c.requires.0 _ c.requires.1 _ c.rows_of-table.ensures l.j c.loop-j-test.true marks.0 marks.1 c.nat_at.ensures c.row_bound-bound.ensures.0 in
-    (omega arith, (omega (arith, c.row_bound-bound.ensures.1), omega (arith, more, l.invariant.1.1)))
+    let more = left_more _ _ c.requires.0 _ c.requires.1 _ c.rows_of-table.ensures l.j c.loop-j-test.true marks.0 marks.1 c.nat_at-state.ensures c.row_bound-bound.ensures.0 in
+    (omega (arith, c.row_bound-bound.ensures.1), omega (arith, more, l.invariant.1))
 
 pub returns : goal.returns
 returns c =
@@ -44,4 +44,4 @@ returns c =
     let rows_of_lem = c.rows_of-table in
     let few = (standing _ _ c.requires.0 _ c.requires.1 _ rows_of_lem.ensures).few in
     let none = left_none _ _ c.requires.0 _ c.requires.1 _ rows_of_lem.ensures l.j c.loop-j-test.false in
-    (omega (arith, none, l.invariant.1.1), omega (arith, few))
+    (omega (arith, none, l.invariant.1), omega (arith, few))

@@ -1,16 +1,15 @@
-use mathlib.Core.Path.{sym, ◌∙◌}
+use mathlib.Core.Path.{◌∙◌}
+use Rattle.std.proofs.lemmas.Result.{err_from_is_err_and}
 use Rattle.engine.proofs.CallLaws as law
 use Rattle.engine.proofs.call.Goals as goal
 
-pub call_area-requires : goal.call_area-requires
-call_area-requires c = sym c.check_schema.ensures ∙ c.in-Accepted.is
+pub returns-in_err-schema : goal.returns-in_err-schema
+returns-in_err-schema c =
+    let p = err_from_is_err_and c.from_residual.result c.from_residual.ensures.1 in
+    rw (p.1, p.2) (law.call_malformed c.args.schema.now c.args.area.now c.args.call.now c.in_err-schema.ensures)
 
-pub returns-in-Malformed : goal.returns-in-Malformed
-returns-in-Malformed c =
-    law.call_malformed c.args.schema.now c.args.area.now _ c.check_schema.ensures c.args.call.now c.in-Malformed.is
-
-pub returns-in-Accepted : goal.returns-in-Accepted
-returns-in-Accepted c =
-    let check_schema = c.check_schema in
-    c.call_area.ensures
-    ∙ law.call_under c.args.schema.now c.args.area.now _ check_schema.ensures c.args.call.now c.in-Accepted.is
+pub returns : goal.returns
+returns c =
+    let s = c.in_ok-schema.schema in
+    let e = c.in_ok-schema.ensures in
+    rw e at c.call_area.ensures ∙ law.call_under c.args.schema.now c.args.area.now c.args.call.now (rw e at s.accepted)

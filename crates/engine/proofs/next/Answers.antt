@@ -1,21 +1,26 @@
-use mathlib.Core.Path.{sym, ◌∙◌}
+use mathlib.Core.Bool.{true}
+use Rattle.std.proofs.lemmas.Result.{err_from_is_err_and}
 use Rattle.schema.specs.Fields.{schema_of}
+use Rattle.laws.specs.Reached.{Reached}
 use Rattle.laws.proofs.Reached.{reached_sound, reached_clean}
+use Rattle.call_form.proofs.Requested.{request_read}
 use Rattle.engine.proofs.CallLaws as law
 use Rattle.engine.proofs.next.Goals as goal
 
-pub returns-then-is_refused : goal.returns-then-is_refused
-returns-then-is_refused c =
-    let read_call = c.read_call-request in
-    law.next_refused c.requires c.args.call.now (law.read_refused (schema_of c.args.schema.now) c.args.call.now read_call.result read_call.ensures (sym c.is_refused.ensures ∙ c.if-is_refused.true))
+pub returns-in_err-asked : goal.returns-in_err-asked
+returns-in_err-asked c =
+    let e = c.new-schema.ensures in
+    let p = err_from_is_err_and c.from_residual.result c.from_residual.ensures.1 in
+    rw (p.1, p.2) (law.next_refused c.requires c.args.call.now (rw e at c.in_err-asked.ensures))
 
 pub carry_out-requires : goal.carry_out-requires
 carry_out-requires c =
-    let read_call = c.read_call-request in
-    (reached_sound c.requires, (read_call.ensures, λ e. reached_clean c.requires))
+    let h : Reached c.new-schema.result.bytes c.args.area.now = rw c.new-schema.ensures c.requires in
+    (reached_sound h, (c.in_ok-asked.ensures, λ e. reached_clean h))
 
 pub returns : goal.returns
 returns c =
-    let read_call = c.read_call-request in
-    let is_refused = c.is_refused in
-    law.next_carried c.requires c.args.call.now (law.read_call (schema_of c.args.schema.now) c.args.call.now read_call.result read_call.ensures (sym is_refused.ensures ∙ c.if-is_refused.false)) c.carry_out.ensures
+    let s = c.new-schema.result.bytes in
+    let call = c.args.call.now in
+    let h : Reached s c.args.area.now = rw c.new-schema.ensures c.requires in
+    rw (← c.new-schema.ensures) (law.next_carried h call (request_read (schema_of s) call c.in_ok-asked.asked c.in_ok-asked.ensures) c.carry_out.ensures)

@@ -1,26 +1,20 @@
-use mathlib.Core.Path.{sym, ap}
+use mathlib.Core.Path.{◌≡◌}
+use Prim.Native.Nat.{ℕ, ◌≤◌, ◌<◌}
+use native.Mathlib.Omega.{arith}
 use borrow.Author.Tests.{ne_eqb}
+use Rattle.std.specs.Prelude.{Result, Ok, Err, MatchResult}
+use Rattle.std.specs.Result.{result_unwrap_or}
+use Rattle.schema.specs.declared.Action.{Action}
+use Rattle.schema.specs.declared.Action.TheVariants.{NoAction}
+use Rattle.schema.specs.declared.UnknownCode.{UnknownCode}
 use Rattle.schema.specs.Fields.{action_from}
 use Rattle.fields.proofs.action_of.Goals as goal
 
-pub returns-in-1 : goal.returns-in-1
+-- NO ACTION for a code of none is what the definition says
+action_or : (code : ℕ) (r : Result Action UnknownCode) → MatchResult r (λ action. (code ≤ 4) × (action ≡ action_from code)) (λ e. (e.0 ≡ code) × (4 < code)) → result_unwrap_or r NoAction ≡ action_from code
 unfolding action_from
-returns-in-1 c = ap action_from (sym c.in-1.is)
+action_or code (Ok a) h = h.1
+action_or code (Err e) h = simp (ne_eqb code 4 (λ q. omega arith), ne_eqb code 3 (λ q. omega arith), ne_eqb code 2 (λ q. omega arith), ne_eqb code 1 (λ q. omega arith))
 
-pub returns-in-2 : goal.returns-in-2
-unfolding action_from
-returns-in-2 c = ap action_from (sym c.in-2.is)
-
-pub returns-in-3 : goal.returns-in-3
-unfolding action_from
-returns-in-3 c = ap action_from (sym c.in-3.is)
-
-pub returns-in-4 : goal.returns-in-4
-unfolding action_from
-returns-in-4 c = ap action_from (sym c.in-4.is)
-
-pub returns-in_default : goal.returns-in_default
-unfolding action_from
-returns-in_default c =
-    let other = c.in_default.in_default-own.rest in
-    simp (ne_eqb _ 4 other.1, ne_eqb _ 3 other.0.1, ne_eqb _ 2 other.0.0.1, ne_eqb _ 1 other.0.0.0.1)
+pub returns : goal.returns
+returns c = cc (action_or c.args.code c.try_from.result c.try_from.ensures)

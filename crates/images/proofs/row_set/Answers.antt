@@ -1,6 +1,8 @@
-use Rattle.words.proofs.Signed.{back}
-use Rattle.images.proofs.ImageLaws.{row_set_is}
+use borrow.Author.Rules.{rules}
+use Rattle.images.proofs.AlikeLaws.{row_option}
 use Rattle.images.proofs.row_set.Goals as goal
 
 pub returns : goal.returns
-returns c = row_set_is _ _ _ _ _ (back _ c.ranges.v.sfits) c.set_cell-x.ensures c.normal.ensures
+returns c =
+    let a = c.args in
+    row_option a.columns c.requires.0 a.c c.requires.1 a.value a.image (search rules) _ c.set_cell.ensures c.written.ensures

@@ -1,9 +1,6 @@
-use mathlib.Core.Path.{sym}
+use borrow.Author.Tests.{le-ltb}
 use Rattle.schema.proofs.MaskLaws.{bit_high}
 use Rattle.numbers.proofs.is_bit.Goals as goal
 
-pub returns-then-i-ge64 : goal.returns-then-i-ge64
-returns-then-i-ge64 c = sym (bit_high _ _ c.requires c.if-i-ge64.true)
-
-pub returns : goal.returns
-returns c = c.bit_of.ensures
+pub returns-else-i-lt64 : goal.returns-else-i-lt64
+returns-else-i-lt64 c = rw (bit_high c.args.m c.args.i c.requires c.if-i-lt64.false, le-ltb c.args.i 64 c.if-i-lt64.false)

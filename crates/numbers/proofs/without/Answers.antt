@@ -1,29 +1,34 @@
-use mathlib.Core.Path.{◌≡◌, sym}
-use mathlib.Core.Bool.{Bool, not, ◌&&◌}
-use Prim.Native.Nat.{ℕ}
+use mathlib.Core.Path.{◌≡◌, refl}
+use mathlib.Core.Bool.{not, ◌&&◌}
+use Prim.Native.Nat.{ℕ, zero, suc, ◌-◌, ◌^◌, ◌<◌, min}
 use native.Mathlib.Omega.{arith}
-use borrow.Author.Rules.{rules}
-use Rattle.schema.specs.Marks.{Marks}
-use Rattle.schema.proofs.MaskLaws.{marks_start, marks_more}
+use lib.Dec.{eqb}
+use lib.Bits.{bit_and}
+use mir.Syntax.{w64}
+use Rattle.std.specs.Int.{bit_at, bit_not}
+use Rattle.std.proofs.lemmas.Nat.{and_le_r}
+use Rattle.std.proofs.lemmas.Nat.Bits.{bit_at_and, bit_at_not, bit_at_ones, bit_at-lt}
+use Rattle.schema.specs.Bytes.{bit}
 use Rattle.numbers.proofs.without.Goals as goal
 
-pub loop-k-init : goal.loop-k-init
-loop-k-init c = (search rules, marks_start _)
+-- a bit of a mask that another has not, as it is worked out with the ones of a third
+left_bit : (a b : ℕ) → a < 2 → b < 2 → eqb (min (min a (1 - b)) 1) 1 ≡ eqb a 1 && not (eqb b 1)
+left_bit zero zero h k = refl
+left_bit zero (suc zero) h k = refl
+left_bit (suc zero) zero h k = refl
+left_bit (suc zero) (suc zero) h k = refl
+left_bit (suc (suc a)) b h k = absurd (omega arith)
+left_bit a (suc (suc b)) h k = absurd (omega arith)
 
-pub marked-rest-requires : goal.marked-rest-requires
-marked-rest-requires c = (search rules, c.loop-k.invariant.1.below)
-
-pub loop-k-preserved : goal.loop-k-preserved
-loop-k-preserved c =
-    let l = c.loop-k in
-    (search rules, rw c.marked-rest.ensures (marks_more _ l.k l.rest l.invariant.1 _ (λ i. c.bit_of.ensures i && not (c.bit_of-in-loop-k.ensures i))))
-
--- a mask of the first n numbers, where n is another name of j
-marks_at : {test : ℕ → Bool} {n j m : ℕ} → n ≡ j → Marks test n m → Marks test j m
-marks_at e h = rw (sym e) h
+left_at : (m q k : ℕ) → q < 2 ^ 64 → k < 32 → bit k (bit_and (bit_and m (bit_not w64 q)) (2 ^ 32 - 1)) ≡ bit k m && not (bit k q)
+unfolding bit
+left_at m q k h l =
+    let i : k < 64 = omega arith in
+    rw (bit_at_and (bit_and m (bit_not w64 q)) (2 ^ 32 - 1) k, bit_at_and m (bit_not w64 q) k, bit_at_not w64 q k h i, bit_at_ones 32 k l)
+    (left_bit (bit_at m k) (bit_at q k) (bit_at-lt m k) (bit_at-lt q k))
 
 pub returns : goal.returns
-returns c =
-    let l = c.loop-k in
-    let e : l.k ≡ 32 = omega (arith, l.invariant.0, c.loop-k-test.false) in
-    marks_at e l.invariant.1
+returns c = record {
+  below = omega (arith, and_le_r (bit_and c.args.m (bit_not w64 c.args.q)) (2 ^ 32 - 1));
+  each = λ k l. left_at c.args.m c.args.q k c.ranges.q.fits l;
+}

@@ -1,5 +1,5 @@
 use mathlib.Core.Path.{◌≡◌}
-use Prim.Native.Nat.{◌+◌, ◌*◌, ◌-◌, ◌≤◌}
+use Prim.Native.Nat.{◌+◌, ◌*◌, ◌≤◌}
 use lib.ListN.{drop}
 use Rattle.schema.specs.Fields.{schema_of}
 use Rattle.rules.specs.OrphanList.{orphan_total}
@@ -7,7 +7,4 @@ use Rattle.orphan_plan.proofs.PlanLaws.{tables_in}
 use Rattle.orphan_plan.proofs.orphan_total.Given as goal
 
 abbrev pub invariant-loop-k : goal.invariant-loop-k
-invariant-loop-k l = (l.k ≤ l.n) × ((l.total ≤ l.k * 1024) × (l.total + orphan_total (drop l.k (schema_of l.schema).keys) (tables_in l.schema l.area) ≡ orphan_total (schema_of l.schema).keys (tables_in l.schema l.area)))
-
-abbrev pub decreases-loop-k : goal.decreases-loop-k
-decreases-loop-k l = l.n - l.k
+invariant-loop-k l = (l.total ≤ l.k * 1024) × (l.total + orphan_total (drop l.k (schema_of l.schema.bytes).keys) (tables_in l.schema.bytes l.area) ≡ orphan_total (schema_of l.schema.bytes).keys (tables_in l.schema.bytes l.area))

@@ -1,5 +1,5 @@
 use mathlib.Core.Path.{◌≡◌}
-use Prim.Native.Nat.{◌+◌, ◌-◌, ◌≤◌}
+use Prim.Native.Nat.{◌+◌, ◌≤◌}
 use lib.ListN.{drop}
 use Rattle.rules.specs.Lists.{count}
 use Rattle.orphans.proofs.OrphanLaws.{child_rows, is_alone}
@@ -7,7 +7,4 @@ use Rattle.orphans.proofs.count_orphans.Given as goal
 
 abbrev pub invariant-loop-j : goal.invariant-loop-j
 invariant-loop-j l =
-    (l.j ≤ l.rows) × ((l.m ≤ l.j) × (l.m + count (is_alone l.schema l.area l.k) (drop l.j (child_rows l.schema l.area l.k)) ≡ count (is_alone l.schema l.area l.k) (child_rows l.schema l.area l.k)))
-
-abbrev pub decreases-loop-j : goal.decreases-loop-j
-decreases-loop-j l = l.rows - l.j
+    (l.m ≤ l.j) × (l.m + count (is_alone l.schema.bytes l.area l.k) (drop l.j (child_rows l.schema.bytes l.area l.k)) ≡ count (is_alone l.schema.bytes l.area l.k) (child_rows l.schema.bytes l.area l.k))

@@ -5,15 +5,11 @@ use Rattle.rows.proofs.TableLaws.{parent_table}
 use Rattle.orphans.proofs.key_rows.Goals as goal
 
 pub rows_of-parents-requires : goal.rows_of-parents-requires
-rows_of-parents-requires c =
-    (c.requires.accepted, rw c.parent.ensures (parent_table c.args.schema.now c.args.k c.requires))
-
-pub key_columns-columns-requires : goal.key_columns-columns-requires
-key_columns-columns-requires c = (c.requires, c.windows-windowed.ensures)
+rows_of-parents-requires c = rw c.parent.ensures (parent_table c.args.schema.now.bytes c.args.k c.requires)
 
 pub returns : goal.returns
 returns c =
-    let b = c.args.schema.now in
+    let b = c.args.schema.now.bytes in
     let child = c.child in
     let children = c.rows_of-children in
     let parent = c.parent in

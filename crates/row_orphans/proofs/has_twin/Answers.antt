@@ -11,10 +11,10 @@ pub other_with_key-requires : goal.other_with_key-requires
 other_with_key-requires c =
     let rows_of_lem = c.rows_of-parents in
     let a = c.args in
-    (parents_stand a.schema.now a.area.now a.k a.t a.r a.pairs c.requires.0.0 c.requires.0.1.0 c.requires.0.1.1 c.requires.1.0 rows_of_lem.result rows_of_lem.ensures, parents_sought a.schema.now a.area.now a.k a.t a.r a.pairs c.requires.0.0 c.requires.0.1.0 c.requires.0.1.1 c.requires.1.0 rows_of_lem.result rows_of_lem.ensures c.sought_key-key.ensures)
+    (parents_stand a.schema.now.bytes a.area.now a.k a.t a.r a.pairs c.requires.0.0 c.requires.0.1.0 c.requires.0.1.1 c.requires.1.0 rows_of_lem.result rows_of_lem.ensures, parents_sought a.schema.now.bytes a.area.now a.k a.t a.r a.pairs c.requires.0.0 c.requires.0.1.0 c.requires.0.1.1 c.requires.1.0 rows_of_lem.result rows_of_lem.ensures c.sought_key-key.ensures)
 
 pub returns : goal.returns
 returns c =
     let rows_of_lem = c.rows_of-parents in
     let a = c.args in
-    c.other_with_key.ensures ∙ twin_is a.schema.now a.area.now a.k a.t a.r a.pairs c.requires.0.0 c.requires.0.1.0 c.requires.0.1.1 c.requires.1.0 rows_of_lem.result rows_of_lem.ensures a.image c.sought_key-key.ensures
+    c.other_with_key.ensures ∙ twin_is a.schema.now.bytes a.area.now a.k a.t a.r a.pairs c.requires.0.0 c.requires.0.1.0 c.requires.0.1.1 c.requires.1.0 rows_of_lem.result rows_of_lem.ensures a.image c.sought_key-key.ensures

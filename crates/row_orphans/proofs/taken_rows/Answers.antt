@@ -12,7 +12,7 @@ count_others_with_key-requires c =
     let child = c.child-child in
     let rows_of_lem = c.rows_of-children in
     let a = c.args in
-    ((children_stand a.schema.now a.area.now a.k a.t a.r a.pairs c.requires.0.0 c.requires.0.1.0 c.requires.0.1.1 child.ensures.0 rows_of_lem.result rows_of_lem.ensures, row_below a.schema.now a.area.now a.k a.t a.r a.pairs c.requires.0.0 c.requires.0.1.0 c.requires.0.1.1 child.ensures.0 rows_of_lem.result rows_of_lem.ensures c.if-child-t.true), children_sought a.schema.now a.area.now a.k a.t a.r a.pairs c.requires.0.0 c.requires.0.1.0 c.requires.0.1.1 child.ensures.0 rows_of_lem.result rows_of_lem.ensures c.sought_key-key.ensures)
+    ((children_stand a.schema.now.bytes a.area.now a.k a.t a.r a.pairs c.requires.0.0 c.requires.0.1.0 c.requires.0.1.1 child.ensures.0 rows_of_lem.result rows_of_lem.ensures, row_below a.schema.now.bytes a.area.now a.k a.t a.r a.pairs c.requires.0.0 c.requires.0.1.0 c.requires.0.1.1 child.ensures.0 rows_of_lem.result rows_of_lem.ensures c.if-child-t.true), children_sought a.schema.now.bytes a.area.now a.k a.t a.r a.pairs c.requires.0.0 c.requires.0.1.0 c.requires.0.1.1 child.ensures.0 rows_of_lem.result rows_of_lem.ensures c.sought_key-key.ensures)
 
 pub returns-then-child-t : goal.returns-then-child-t
 returns-then-child-t c =
@@ -20,14 +20,14 @@ returns-then-child-t c =
     let rows_of_lem = c.rows_of-children in
     let a = c.args in
     let m = c.count_others_with_key.ensures in
-    (m.0 ∙ taken_others a.schema.now a.area.now a.k a.t a.r a.pairs c.requires.0.0 c.requires.0.1.0 c.requires.0.1.1 child.ensures.0 rows_of_lem.result rows_of_lem.ensures c.if-child-t.true a.image c.sought_key-key.ensures, children_few a.schema.now a.area.now a.k a.t a.r a.pairs c.requires.0.0 c.requires.0.1.0 c.requires.0.1.1 child.ensures.0 rows_of_lem.result rows_of_lem.ensures m.1)
+    (m.0 ∙ taken_others a.schema.now.bytes a.area.now a.k a.t a.r a.pairs c.requires.0.0 c.requires.0.1.0 c.requires.0.1.1 child.ensures.0 rows_of_lem.result rows_of_lem.ensures c.if-child-t.true a.image c.sought_key-key.ensures, children_few a.schema.now.bytes a.area.now a.k a.t a.r a.pairs c.requires.0.0 c.requires.0.1.0 c.requires.0.1.1 child.ensures.0 rows_of_lem.result rows_of_lem.ensures m.1)
 
 pub count_with_key-requires : goal.count_with_key-requires
 count_with_key-requires c =
     let child = c.child-child in
     let rows_of_lem = c.rows_of-children in
     let a = c.args in
-    (children_stand a.schema.now a.area.now a.k a.t a.r a.pairs c.requires.0.0 c.requires.0.1.0 c.requires.0.1.1 child.ensures.0 rows_of_lem.result rows_of_lem.ensures, children_sought a.schema.now a.area.now a.k a.t a.r a.pairs c.requires.0.0 c.requires.0.1.0 c.requires.0.1.1 child.ensures.0 rows_of_lem.result rows_of_lem.ensures c.sought_key-key.ensures)
+    (children_stand a.schema.now.bytes a.area.now a.k a.t a.r a.pairs c.requires.0.0 c.requires.0.1.0 c.requires.0.1.1 child.ensures.0 rows_of_lem.result rows_of_lem.ensures, children_sought a.schema.now.bytes a.area.now a.k a.t a.r a.pairs c.requires.0.0 c.requires.0.1.0 c.requires.0.1.1 child.ensures.0 rows_of_lem.result rows_of_lem.ensures c.sought_key-key.ensures)
 
 pub returns : goal.returns
 returns c =
@@ -35,4 +35,4 @@ returns c =
     let rows_of_lem = c.rows_of-children in
     let a = c.args in
     let m = c.count_with_key.ensures in
-    (m.0 ∙ taken_all a.schema.now a.area.now a.k a.t a.r a.pairs c.requires.0.0 c.requires.0.1.0 c.requires.0.1.1 child.ensures.0 rows_of_lem.result rows_of_lem.ensures c.if-child-t.false a.image c.sought_key-key.ensures, children_few a.schema.now a.area.now a.k a.t a.r a.pairs c.requires.0.0 c.requires.0.1.0 c.requires.0.1.1 child.ensures.0 rows_of_lem.result rows_of_lem.ensures m.1)
+    (m.0 ∙ taken_all a.schema.now.bytes a.area.now a.k a.t a.r a.pairs c.requires.0.0 c.requires.0.1.0 c.requires.0.1.1 child.ensures.0 rows_of_lem.result rows_of_lem.ensures c.if-child-t.false a.image c.sought_key-key.ensures, children_few a.schema.now.bytes a.area.now a.k a.t a.r a.pairs c.requires.0.0 c.requires.0.1.0 c.requires.0.1.1 child.ensures.0 rows_of_lem.result rows_of_lem.ensures m.1)

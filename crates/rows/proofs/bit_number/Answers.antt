@@ -1,12 +1,17 @@
-use mathlib.Core.Path.{sym, ap, ◌∙◌}
-use borrow.Author.Rules.{rules}
+use mathlib.Core.Path.{◌≡◌, refl, ap, ◌∙◌}
+use mathlib.Core.Bool.{Bool, true, false}
+use Prim.Native.Nat.{◌≤◌}
+use native.Mathlib.Omega.{arith}
+use mir.Val.{bool_byte}
 use Rattle.rules.specs.Lists.{one}
 use Rattle.rows.proofs.bit_number.Goals as goal
 
-pub returns-then-bit_of : goal.returns-then-bit_of
+as_number : (b : Bool) → (bool_byte b ≡ one b) × (one b ≤ 1)
 unfolding one
-returns-then-bit_of c = (ap one (sym (sym c.bit_of.ensures ∙ c.if-bit_of.true)), search rules)
+as_number true = (refl, omega arith)
+as_number false = (refl, omega arith)
 
 pub returns : goal.returns
-unfolding one
-returns c = (ap one (sym (sym c.bit_of.ensures ∙ c.if-bit_of.false)), search rules)
+returns c =
+    let e = c.from.ensures ∙ (as_number c.bit_of.result).0 ∙ ap one c.bit_of.ensures in
+    (e, omega (arith, c.from.ensures, (as_number c.bit_of.result).0, (as_number c.bit_of.result).1))

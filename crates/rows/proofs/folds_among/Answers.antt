@@ -1,4 +1,3 @@
-use borrow.Author.Rules.{rules}
 use mathlib.Core.Path.{◌≡◌}
 use native.Mathlib.Omega.{arith}
 use Rattle.schema.proofs.MaskLaws.{marks_start, marks_more}
@@ -6,24 +5,21 @@ use Rattle.rows.proofs.FoldLaws.{folds_marked}
 use Rattle.rows.proofs.folds_among.Goals as goal
 
 pub loop-i-init : goal.loop-i-init
-loop-i-init c = (search rules, marks_start _)
-
-pub bit_of-requires : goal.bit_of-requires
-bit_of-requires c = omega (arith, c.requires.within c.loop-i.i c.loop-i-test.true)
+loop-i-init c = marks_start _
 
 pub marked-f-requires : goal.marked-f-requires
 marked-f-requires c =
     let l = c.loop-i in
-    (omega (arith, c.requires.few, c.loop-i-test.true), l.invariant.1.below)
+    (omega (arith, c.requires.few, c.loop-i-test.true), l.invariant.below)
 
 pub loop-i-preserved : goal.loop-i-preserved
 loop-i-preserved c =
     let l = c.loop-i in
-    (search rules, rw c.marked-f.ensures (marks_more _ l.i l.f l.invariant.1 _ c.bit_of.ensures))
+    rw c.marked-f.ensures (marks_more _ l.i l.f l.invariant _ c.bit_of.ensures)
 
 pub returns : goal.returns
 returns c =
     let a = c.args in
     let l = c.loop-i in
-    let e : l.i ≡ a.n = omega (arith, l.invariant.0, c.loop-i-test.false) in
-    folds_marked l.f a.mask a.n a.cs (omega (arith, c.requires.few, c.requires.size)) (rw e at l.invariant.1)
+    let e : l.i ≡ a.n = omega (arith, c.loop-i-test.false) in
+    folds_marked l.f a.mask a.n a.cs (omega (arith, c.requires.few, c.requires.size)) (rw e at l.invariant)

@@ -1,11 +1,7 @@
-use Prim.Native.Nat.{◌-◌, ◌≤◌}
 use lib.ListN.{get_or}
 use Rattle.schema.specs.Bytes.{bit}
 use Rattle.schema.specs.Marks.{Marks}
 use Rattle.rows.proofs.folds_among.Given as goal
 
 abbrev pub invariant-loop-i : goal.invariant-loop-i
-invariant-loop-i l = (l.i ≤ l.n) × Marks (λ j. bit (get_or l.cs j 0) l.mask) l.i l.f
-
-abbrev pub decreases-loop-i : goal.decreases-loop-i
-decreases-loop-i l = l.n - l.i
+invariant-loop-i l = Marks (λ j. bit (get_or l.cs j 0) l.mask) l.i l.f

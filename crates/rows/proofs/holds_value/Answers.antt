@@ -9,17 +9,17 @@ use Rattle.rules.specs.Values.{same_word, folded}
 use Rattle.rows.proofs.SoughtLaws.{value_differs, value_same}
 use Rattle.rows.proofs.holds_value.Goals as goal
 
-pub returns-then-not-same_word : goal.returns-then-not-same_word
-returns-then-not-same_word c =
+pub returns-else-same_word : goal.returns-else-same_word
+returns-else-same_word c =
     let a = c.args in
-    let u = c.compared-u.ensures ∙ ap (folded a.f) (back (get_or a.area.now (a.p + a.c + 1) 𝟘) c.compared-arg-1.given) in
+    let u = c.compared-u.ensures ∙ ap (folded a.f) (back (get_or a.row.now (a.c + 1) 𝟘) c.compared-arg-1.given) in
     let e = c.same_word.ensures ∙ ap₂ same_word (back _ c.compared-u.type_inv ∙ u) (back _ c.ranges.v.sfits) in
-    value_differs a.area.now a.p a.w a.f a.c a.v c.requires.1.0 c.requires.1.1 (sym e ∙ c.if-not-same_word.true)
+    c.if-same_word.false ∙ value_differs a.row.now a.f a.c a.v c.requires.1 (sym e ∙ c.if-same_word.false)
 
-pub returns : goal.returns
-returns c =
+pub returns-then-same_word : goal.returns-then-same_word
+returns-then-same_word c =
     let a = c.args in
-    let u = c.compared-u.ensures ∙ ap (folded a.f) (back (get_or a.area.now (a.p + a.c + 1) 𝟘) c.compared-arg-1.given) in
+    let u = c.compared-u.ensures ∙ ap (folded a.f) (back (get_or a.row.now (a.c + 1) 𝟘) c.compared-arg-1.given) in
     let e = c.same_word.ensures ∙ ap₂ same_word (back _ c.compared-u.type_inv ∙ u) (back _ c.ranges.v.sfits) in
-    ap not (c.bit_of.ensures ∙ ap (bit a.c) c.nat_at-s.ensures)
-    ∙ value_same a.area.now a.p a.w a.f a.c a.v c.requires.1.0 c.requires.1.1 (sym e ∙ c.if-not-same_word.false)
+    ap not (c.bit_of.ensures ∙ ap (bit a.c) c.nat_at.ensures)
+    ∙ value_same a.row.now a.f a.c a.v c.requires.1 (sym e ∙ c.if-same_word.true)

@@ -11,25 +11,23 @@ use Rattle.rules.specs.Values.{nat_of}
 use Rattle.rows.proofs.CellLaws.{half_vacant, half_live}
 use Rattle.rows.proofs.image_half_key.Goals as goal
 
-pub returns-then-not-is_live : goal.returns-then-not-is_live
-returns-then-not-is_live c =
+pub returns-else-is_live : goal.returns-else-is_live
+returns-else-is_live c =
     let e = c.nat_of-state.ensures ∙ ap nat_of (back _ c.nat_of-arg-1.given) in
-    half_vacant _ e _ (sym c.is_live.ensures ∙ c.if-not-is_live.true)
+    c.if-is_live.false ∙ half_vacant _ e _ (sym c.is_live.ensures ∙ c.if-is_live.false)
 
 pub returns-then-nulls-gt0 : goal.returns-then-nulls-gt0
 returns-then-nulls-gt0 c =
-    let s = c in
     let m = c.null_columns-nulls.result in
     let e = c.nat_of-state.ensures ∙ ap nat_of (back _ c.nat_of-arg-1.given) in
-    let half = half_live _ e _ (sym c.is_live.ensures ∙ c.if-not-is_live.false) c.null_columns-nulls.ensures in
-    let size : length (take s.args.n s.args.cs) ≡ s.args.n = length-take-le s.args.n s.args.cs (omega (arith, s.requires.few, s.requires.size)) in
+    let half = half_live _ e _ (sym c.is_live.ensures ∙ c.if-is_live.true) c.null_columns-nulls.ensures in
+    let size : length (take c.args.n c.args.cs) ≡ c.args.n = length-take-le c.args.n c.args.cs (omega (arith, c.requires.few, c.requires.size)) in
     ap₂ (λ (b : Bool) (l : ℕ). b && ltb m l) (sym (lt-ltb 0 m c.if-nulls-gt0.true)) (sym size) ∙ half
 
 pub returns-else-nulls-gt0 : goal.returns-else-nulls-gt0
 returns-else-nulls-gt0 c =
-    let s = c in
     let m = c.null_columns-nulls.result in
     let e = c.nat_of-state.ensures ∙ ap nat_of (back _ c.nat_of-arg-1.given) in
-    let half = half_live _ e _ (sym c.is_live.ensures ∙ c.if-not-is_live.false) c.null_columns-nulls.ensures in
+    let half = half_live _ e _ (sym c.is_live.ensures ∙ c.if-is_live.true) c.null_columns-nulls.ensures in
     let none = le-ltb 0 m c.if-nulls-gt0.false in
-    none ∙ sym (ap (λ (b : Bool). b && ltb m (length (take s.args.n s.args.cs))) none) ∙ half
+    none ∙ sym (ap (λ (b : Bool). b && ltb m (length (take c.args.n c.args.cs))) none) ∙ half

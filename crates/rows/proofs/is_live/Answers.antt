@@ -1,10 +1,9 @@
-use mathlib.Core.Path.{◌∙◌}
-use borrow.Author.Tests.{lt-leb}
-use Rattle.rows.proofs.CellLaws.{live_below, live_above}
+use mathlib.Core.Path.{ap₂, ◌∙◌}
+use mathlib.Core.Bool.{◌&&◌}
+use Rattle.rules.specs.Rows.{live_state}
+use Rattle.rows.proofs.ChainLaws.{upto_is, below_is}
 use Rattle.rows.proofs.is_live.Goals as goal
 
-pub returns-then-state-ge256 : goal.returns-then-state-ge256
-returns-then-state-ge256 c = live_above _ c.if-state-ge256.true
-
-pub returns-else-state-ge256 : goal.returns-else-state-ge256
-returns-else-state-ge256 c = lt-leb 256 _ c.if-state-ge256.false ∙ live_below _ c.if-state-ge256.false
+pub returns : goal.returns
+unfolding live_state
+returns c = c.contains.ensures.value ∙ ap₂ ◌&&◌ (upto_is 256 c.args.state) (below_is c.args.state 512)

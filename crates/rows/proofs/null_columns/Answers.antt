@@ -1,32 +1,23 @@
-use mathlib.Core.Path.{◌≡◌, sym}
-use Prim.Native.Nat.{ℕ}
-use native.Mathlib.Omega.{arith}
-use borrow.Author.Rules.{rules}
-use lib.ListN.{length, get_or, take}
-use lib.Seq.{length-take-le, get_or-take}
+use mathlib.Core.Path.{◌≡◌, ◌∙◌}
+use Prim.Native.Nat.{ℕ, ◌<◌}
+use Rattle.std.proofs.Common.{rules}
+use Rattle.std.specs.List.{count_by}
+use Rattle.std.proofs.iter.runs.Made.{chains}
+use Rattle.std.proofs.lemmas.Iterator.{YieldsList-from_slice}
+use Rattle.std.proofs.lemmas.Iterator.Adapters.{serves_from_places}
 use Rattle.schema.specs.Bytes.{bit}
-use Rattle.bridge.proofs.LoopLaws.{count_none, count_more}
+use Rattle.rows.proofs.ChainLaws.{count_list, item_fits}
 use Rattle.rows.proofs.null_columns.Goals as goal
 
-pub loop-i-init : goal.loop-i-init
-loop-i-init c = (search rules, (search rules, omega arith))
-
-pub bit_number-m-requires : goal.bit_number-m-requires
-bit_number-m-requires c = omega (arith, c.requires.within c.loop-i.i c.loop-i-test.true)
-
-pub loop-i-preserved : goal.loop-i-preserved
-loop-i-preserved c =
-    let a = c.args in
-    let l = c.loop-i in
-    let h = c.loop-i-test.true in
-    let size : length (take a.n a.cs) ≡ a.n = length-take-le a.n a.cs (omega (arith, c.requires.few, c.requires.size)) in
-    let e = count_more (λ (i : ℕ). bit i a.state) (take a.n a.cs) l.i (omega (arith, size, h)) 0 (get_or a.cs l.i 0) (sym (get_or-take a.n a.cs l.i 0 h)) in
-    (search rules, (omega arith, omega arith))
+pub count-requires-clause-can : goal.count-requires-clause-can
+count-requires-clause-can c = (
+  tt,
+  tt,
+  serves_from_places (YieldsList-from_slice c.args.cs.now cc) (λ x q k. search rules)
+      (λ x k l e. let h : x.now < 64 = item_fits _ _ _ _ c.requires l e in search rules),
+)
 
 pub returns : goal.returns
 returns c =
-    let a = c.args in
-    let l = c.loop-i in
-    let size : length (take a.n a.cs) ≡ a.n = length-take-le a.n a.cs (omega (arith, c.requires.few, c.requires.size)) in
-    let e = count_none (λ (i : ℕ). bit i a.state) (take a.n a.cs) l.i (omega (arith, size, c.loop-i-test.false)) in
-    omega arith
+    let e : c.count.result ≡ count_by (λ (i : ℕ). bit i c.args.state) c.args.cs.now = search (rules, chains) in
+    e ∙ count_list _ c.args.cs.now

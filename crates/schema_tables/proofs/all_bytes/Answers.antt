@@ -1,16 +1,11 @@
-use mathlib.Core.Path.{refl, sym, ◌∙◌}
+use mathlib.Core.Path.{refl}
 use borrow.Author.Rules.{rules}
-use Rattle.schema.proofs.RangeLaws.{all_none, all_stop, all_go}
+use borrow.Author.Tests.{tests}
+use Rattle.schema.specs.Check
+use Rattle.schema.proofs.RangeChains.{all_in_range}
 use Rattle.schema_tables.proofs.all_bytes.Goals as goal
 
-pub loop-i-init : goal.loop-i-init
-loop-i-init c = (search rules, refl)
-
-pub returns-then-not-is_byte : goal.returns-then-not-is_byte
-returns-then-not-is_byte c = sym (c.loop-i.invariant.1 ∙ all_stop _ _ _ c.loop-i-test.true (sym c.is_byte.ensures ∙ c.if-not-is_byte.true))
-
-pub loop-i-preserved : goal.loop-i-preserved
-loop-i-preserved c = (search rules, c.loop-i.invariant.1 ∙ all_go _ _ _ c.loop-i-test.true (sym c.is_byte.ensures ∙ c.if-not-is_byte.false))
-
 pub returns : goal.returns
-returns c = sym (c.loop-i.invariant.1 ∙ all_none _ _ _ c.loop-i-test.false)
+returns c =
+    let a = c.args in
+    all_in_range (Check.is_byte a.s.now a.at a.b) _ _ _ a.from a.to _ refl refl c.all.ensures.ran (λ x q k. search (rules, tests)) (λ x q k. search (rules, tests))

@@ -12,16 +12,15 @@ pub nat_at-used-requires : goal.nat_at-used-requires
 nat_at-used-requires c = omega (arith, area_long c.requires.0.ready.fit)
 
 pub seeking_of-x-requires : goal.seeking_of-x-requires
-seeking_of-x-requires c =
-    (c.requires.0.ready.accepted, (c.requires.1.0.table, c.requires.1.0.column))
+seeking_of-x-requires c = (c.requires.1.0.table, c.requires.1.0.column)
 
 pub found_walk-made-requires : goal.found_walk-made-requires
 found_walk-made-requires c =
-    (tally_begins c.args.schema.now c.requires.0.ready, (c.seeking_of-x.ensures.seeks, c.requires.1.0.set))
+    (tally_begins c.args.schema.now.bytes c.requires.0.ready, (c.seeking_of-x.ensures.seeks, c.requires.1.0.set))
 
 pub conclude-requires : goal.conclude-requires
 conclude-requires c =
-    let b = c.args.schema.now in
+    let b = c.args.schema.now.bytes in
     let body = found_changes (schema_of b) c.args.t c.args.sought c.args.given in
     let fine = ends.found_fine b c.requires.0 c.args.t c.args.sought c.args.given in
     let walk = c.found_walk-made in
@@ -30,7 +29,7 @@ conclude-requires c =
 
 pub returns : goal.returns
 returns c =
-    let b = c.args.schema.now in
+    let b = c.args.schema.now.bytes in
     let body = found_changes (schema_of b) c.args.t c.args.sought c.args.given in
     let fine = ends.found_fine b c.requires.0 c.args.t c.args.sought c.args.given in
     let walk = c.found_walk-made in

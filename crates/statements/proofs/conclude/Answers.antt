@@ -21,21 +21,21 @@ overflow_sub-changed c = omega (arith, c.requires.0.begun, c.nat_at.ensures, use
 
 pub put_back-requires : goal.put_back-requires
 put_back-requires c =
-    let sc : Schema = schema_of c.args.schema.now in
+    let sc : Schema = schema_of c.args.schema.now.bytes in
     let made = c.settle_made in
-    ends.undoable_same c.requires.0 c.requires.1 (kept.failed_same sc (plus (view sc c.args.area.now).kept c.args.tally) c.args.area.now made.new.area c.in-Fail.is made.ensures.1)
+    ends.undoable_same c.requires.0 c.requires.1 (kept.failed_same sc (plus (view sc c.args.area.now).kept c.args.tally) c.args.area.now made.new.area c.in-Err.is made.ensures.1)
 
-pub sum_of-requires : goal.sum_of-requires
-sum_of-requires c = small_more {m = 1024} (omega arith) c.requires.0.settling.tally_small
+pub sum_of-net-requires : goal.sum_of-net-requires
+sum_of-net-requires c = small_more {m = 1024} (omega arith) c.requires.0.settling.tally_small
 
-pub returns-in-Fail : goal.returns-in-Fail
-returns-in-Fail c =
-    let sc : Schema = schema_of c.args.schema.now in
+pub returns-in-Err : goal.returns-in-Err
+returns-in-Err c =
+    let sc : Schema = schema_of c.args.schema.now.bytes in
     let made = c.settle_made in
-    ends.ended_fail sc c.args.used c.args.tally c.args.area.now _ _ _ (sym c.in-Fail.is ∙ made.ensures.0) (kept.failed_same sc (plus (view sc c.args.area.now).kept c.args.tally) c.args.area.now made.new.area c.in-Fail.is made.ensures.1) c.put_back.ensures
+    ends.ended_fail sc c.args.used c.args.tally c.args.area.now _ _ _ (sym c.in-Err.is ∙ made.ensures.0) (kept.failed_same sc (plus (view sc c.args.area.now).kept c.args.tally) c.args.area.now made.new.area c.in-Err.is made.ensures.1) c.put_back.ensures
 
-pub returns-in-Pass : goal.returns-in-Pass
-returns-in-Pass c =
-    let sc : Schema = schema_of c.args.schema.now in
+pub returns-in-Ok : goal.returns-in-Ok
+returns-in-Ok c =
+    let sc : Schema = schema_of c.args.schema.now.bytes in
     let made = c.settle_made in
-    ends.ended_pass sc c.args.used c.args.tally c.args.area.now _ _ _ (sym c.in-Pass.is ∙ made.ensures.0) (ap (λ (n : ℕ). n - c.args.used) (c.nat_at.ensures ∙ sym (use_is c.requires.0.settling.ready.fit))) (back _ c.sum_of.type_inv ∙ c.sum_of.ensures) (kept.passed_holds sc (plus (view sc c.args.area.now).kept c.args.tally) c.args.area.now made.new.area c.in-Pass.is made.ensures.1)
+    ends.ended_pass sc c.args.used c.args.tally c.args.area.now _ _ _ (sym c.in-Ok.is ∙ made.ensures.0) (ap (λ (n : ℕ). n - c.args.used) (c.nat_at.ensures ∙ sym (use_is c.requires.0.settling.ready.fit))) (back _ c.sum_of-net.type_inv ∙ c.sum_of-net.ensures) (kept.passed_holds sc (plus (view sc c.args.area.now).kept c.args.tally) c.args.area.now made.new.area c.in-Ok.is made.ensures.1)

@@ -1,12 +1,9 @@
 use mathlib.Core.Path.{◌≡◌}
-use Prim.Native.Nat.{◌-◌, ◌*◌, ◌≤◌}
+use Prim.Native.Nat.{◌*◌, ◌≤◌}
 use lib.IntN.{nat_abs, ◌+ℤ◌}
 use lib.ListN.{drop}
 use Rattle.rules.specs.Lists.{sum}
 use Rattle.sums.proofs.sum_of.Given as goal
 
-abbrev pub invariant-loop-k : goal.invariant-loop-k
-invariant-loop-k l = (l.k ≤ 32) × ((nat_abs l.s ≤ l.k * 4096) × (l.s +ℤ sum (drop l.k l.numbers) ≡ sum l.numbers))
-
-abbrev pub decreases-loop-k : goal.decreases-loop-k
-decreases-loop-k l = 32 - l.k
+abbrev pub invariant-loop-number : goal.invariant-loop-number
+invariant-loop-number l = (nat_abs l.sum ≤ l.number-index * 4096) × (l.sum +ℤ sum (drop l.number-index l.fn.numbers) ≡ sum l.fn.numbers)

@@ -6,7 +6,7 @@ use Rattle.table_keys.proofs.with_key.Goals as goal
 
 pub marked-requires : goal.marked-requires
 marked-requires c =
-    (omega (arith, (accepted_valid _ c.requires.0.0).few, c.requires.0.1), c.requires.1.1.1)
+    (omega (arith, (accepted_valid _ c.args.schema.now.accepted).few, c.requires.0), c.requires.1.1.1)
 
 pub returns-then-is_broken : goal.returns-then-is_broken
 returns-then-is_broken c =
@@ -14,11 +14,11 @@ returns-then-is_broken c =
 
 pub marked-requires-2 : goal.marked-requires-2
 marked-requires-2 c =
-    (omega (arith, (accepted_valid _ c.requires.0.0).few, c.requires.0.1), c.requires.1.0)
+    (omega (arith, (accepted_valid _ c.args.schema.now.accepted).few, c.requires.0), c.requires.1.0)
 
 pub marked-requires-3 : goal.marked-requires-3
 marked-requires-3 c =
-    (omega (arith, (accepted_valid _ c.requires.0.0).few, c.requires.0.1), c.requires.1.1.0)
+    (omega (arith, (accepted_valid _ c.args.schema.now.accepted).few, c.requires.0), c.requires.1.1.0)
 
 pub returns : goal.returns
 returns c =

@@ -9,7 +9,7 @@ pub moved-requires : goal.moved-requires
 moved-requires c =
     let h = c.requires.0.tallied in
     let w = c.write_row in
-    let after : Ready c.args.schema.now w.new.area = record { accepted = h.ready.accepted; fit = w.ensures.1.1.fit } in
+    let after : Ready c.args.schema.now.bytes w.new.area = record { accepted = h.ready.accepted; fit = w.ensures.1.1.fit } in
     (tally_small h, (rw c.row_counts-before.ensures (row_small h.ready _ _ _ _), rw c.row_counts-after.ensures (row_small after _ _ _ _)))
 
 pub returns : goal.returns

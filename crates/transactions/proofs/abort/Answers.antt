@@ -16,7 +16,7 @@ pub end-requires : goal.end-requires
 end-requires c =
     let undo_to = c.undo_to in
     let loaded = step.abort_loaded c.requires.0.ready.fit c.requires.1.0 undo_to.ensures c.load_kept.ensures in
-    (record { accepted = c.requires.0.ready.accepted; fit = loaded.fit }, spare_undone (schema_of c.args.schema.now) c.args.area.now _ c.requires.1.1 0 (step.loaded_work c.requires.0.ready.fit c.requires.1.0 undo_to.ensures c.load_kept.ensures))
+    (record { accepted = c.requires.0.ready.accepted; fit = loaded.fit }, spare_undone (schema_of c.args.schema.now.bytes) c.args.area.now _ c.requires.1.1 0 (step.loaded_work c.requires.0.ready.fit c.requires.1.0 undo_to.ensures c.load_kept.ensures))
 
 pub returns : goal.returns
 returns c =

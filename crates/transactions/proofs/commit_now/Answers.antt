@@ -14,13 +14,13 @@ pub returns-then-not-all_zero : goal.returns-then-not-all_zero
 returns-then-not-all_zero c =
     let numbers_at = c.numbers_at-kept in
     let all_zero_lem = c.all_zero in
-    let sc = schema_of c.args.schema.now in
+    let sc = schema_of c.args.schema.now.bytes in
     let a = c.args.area.now in
     turn.turn_same c.requires.0.fit (turn.commit_refused sc (view sc a) (ap all_zero (step.kept_at sc a ∙ sym numbers_at.ensures) ∙ sym all_zero_lem.ensures ∙ c.if-not-all_zero.true))
 
 pub returns : goal.returns
 returns c =
-    let sc = schema_of c.args.schema.now in
+    let sc = schema_of c.args.schema.now.bytes in
     let a = c.args.area.now in
     let numbers_at = c.numbers_at-kept in
     let all_zero_lem = c.all_zero in

@@ -20,7 +20,7 @@ empty_journal-requires c =
     let nat_at = c.nat_at-n in
     let close_levels = c.close_levels in
     let mid = step.end_mid c.requires.0.fit (step.closed_is c.args.area.now close_levels.new.area nat_at.result close_levels.ensures nat_at.ensures) refl in
-    (record { accepted = c.requires.0.accepted; fit = mid.fit }, spare_same (schema_of c.args.schema.now) c.args.area.now _ c.requires.1 (step.end_work c.requires.0.fit (step.closed_is c.args.area.now close_levels.new.area nat_at.result close_levels.ensures nat_at.ensures) refl))
+    (record { accepted = c.requires.0.accepted; fit = mid.fit }, spare_same (schema_of c.args.schema.now.bytes) c.args.area.now _ c.requires.1 (step.end_work c.requires.0.fit (step.closed_is c.args.area.now close_levels.new.area nat_at.result close_levels.ensures nat_at.ensures) refl))
 
 pub returns : goal.returns
 returns c =

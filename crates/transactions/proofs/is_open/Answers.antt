@@ -14,7 +14,7 @@ nat_at-opener-requires c = omega (arith, step.area_long c.requires.0.fit)
 
 pub returns : goal.returns
 returns c =
-    let sc = schema_of c.args.schema.now in
+    let sc = schema_of c.args.schema.now.bytes in
     let a = c.args.area.now in
     let nat_at = c.nat_at-n in
     turn.open_is (view sc a) c.args.a nat_at.result c.nat_at-opener.result c.requires.1 (step.count_is c.requires.0.fit nat_at.ensures) (c.nat_at-opener.ensures ∙ step.opener_word sc a)

@@ -8,7 +8,7 @@ use Rattle.transactions.proofs.open_next.Goals as goal
 
 pub open_level-requires : goal.open_level-requires
 open_level-requires c =
-    (step.area_long c.requires.0.fit, (omega (arith, step.closed_below c.requires.0.fit c.requires.1.0), omega (arith, step.use_small c.args.schema.now c.requires.0)))
+    (step.area_long c.requires.0.fit, (omega (arith, step.closed_below c.requires.0.fit c.requires.1.0), omega (arith, step.use_small c.args.schema.now.bytes c.requires.0)))
 
 pub bounds-area-1 : goal.bounds-area-1
 bounds-area-1 c = omega (arith, step.area_long c.requires.0.fit, c.open_level.auto.area)

@@ -9,12 +9,12 @@ use Rattle.transactions.proofs.release.Goals as goal
 
 pub returns-then-not-is_open : goal.returns-then-not-is_open
 returns-then-not-is_open c =
-    let sc = schema_of c.args.schema.now in
+    let sc = schema_of c.args.schema.now.bytes in
     turn.turn_same c.requires.0.fit (turn.release_refused sc (view sc c.args.area.now) c.args.a (sym c.is_open.ensures ∙ c.if-not-is_open.true))
 
 pub returns-then-a-eq1 : goal.returns-then-a-eq1
 returns-then-a-eq1 c =
-    let sc = schema_of c.args.schema.now in
+    let sc = schema_of c.args.schema.now.bytes in
     let is_open = c.is_open in
     c.commit_now.ensures
     ∙ sym (ap on_words (turn.release_first sc (view sc c.args.area.now) c.args.a (sym is_open.ensures ∙ c.if-not-is_open.false) c.if-a-eq1.true))
@@ -39,7 +39,7 @@ close_levels-requires c =
 pub returns : goal.returns
 returns c =
     let close_levels = c.close_levels in
-    let sc = schema_of c.args.schema.now in
+    let sc = schema_of c.args.schema.now.bytes in
     let is_open = c.is_open in
     let nat_at = c.nat_at-n in
     turn.turn_words (step.release_holds c.requires.0.fit nat_at.result c.args.a nat_at.ensures c.requires.1.0 (omega (arith, step.count_is c.requires.0.fit nat_at.ensures, step.level_below c.requires.0.fit c.args.a (sym is_open.ensures ∙ c.if-not-is_open.false))) close_levels.ensures) (turn.release_closes sc (view sc c.args.area.now) c.args.a (sym is_open.ensures ∙ c.if-not-is_open.false) (ne_eqb _ 1 c.if-a-eq1.false))

@@ -14,7 +14,7 @@ nat_at-requires c = omega (arith, step.area_long c.requires.0.ready.fit)
 
 pub returns-then-nat_at-eq0 : goal.returns-then-nat_at-eq0
 returns-then-nat_at-eq0 c =
-    let sc = schema_of c.args.schema.now in
+    let sc = schema_of c.args.schema.now.bytes in
     turn.turn_same c.requires.0.ready.fit (turn.rollback_outside sc (view sc c.args.area.now) (sym (step.count_is c.requires.0.ready.fit c.nat_at.ensures) ∙ c.if-nat_at-eq0.true))
 
 pub nat_at-used-requires : goal.nat_at-used-requires
@@ -22,7 +22,7 @@ nat_at-used-requires c = omega (arith, step.area_long c.requires.0.ready.fit)
 
 pub net_to-net-requires : goal.net_to-net-requires
 net_to-net-requires c =
-    let b = c.args.schema.now in
+    let b = c.args.schema.now.bytes in
     let nat_at = c.nat_at in
     ((step.area_long c.requires.0.ready.fit, omega arith), (step.kept_bound b c.requires.0, step.saved_bound b c.requires.0 0 (step.positive _ (λ z. c.if-nat_at-eq0.false (step.count_is c.requires.0.ready.fit nat_at.ensures ∙ z)))))
 
@@ -34,7 +34,7 @@ abort-requires c =
 pub returns : goal.returns
 returns c =
     let abort = c.abort in
-    let sc = schema_of c.args.schema.now in
+    let sc = schema_of c.args.schema.now.bytes in
     let nat_at = c.nat_at in
     let nat_at2 = c.nat_at-used in
     let net_to = c.net_to-net in

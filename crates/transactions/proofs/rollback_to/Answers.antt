@@ -15,7 +15,7 @@ use Rattle.transactions.proofs.rollback_to.Goals as goal
 
 pub returns-then-not-is_open : goal.returns-then-not-is_open
 returns-then-not-is_open c =
-    let sc = schema_of c.args.schema.now in
+    let sc = schema_of c.args.schema.now.bytes in
     turn.turn_same c.requires.0.ready.fit (turn.back_refused sc (view sc c.args.area.now) c.args.a (sym c.is_open.ensures ∙ c.if-not-is_open.true))
 
 pub nat_at-n-requires : goal.nat_at-n-requires
@@ -41,7 +41,7 @@ nat_at-base-requires c =
 
 pub net_to-net-requires : goal.net_to-net-requires
 net_to-net-requires c =
-    let b = c.args.schema.now in
+    let b = c.args.schema.now.bytes in
     let is_open = c.is_open in
     ((step.area_long c.requires.0.ready.fit, omega (arith, step.few c.requires.0.ready.fit, (step.level_below c.requires.0.ready.fit c.args.a (sym is_open.ensures ∙ c.if-not-is_open.false)))), (step.kept_bound b c.requires.0, step.saved_bound b c.requires.0 (c.args.a - 1) (omega (arith, c.requires.1, (step.level_below c.requires.0.ready.fit c.args.a (sym is_open.ensures ∙ c.if-not-is_open.false))))))
 
@@ -58,12 +58,12 @@ back_to-requires c =
     let nat_at3 = c.nat_at-base in
     (c.requires.0, (omega (arith, c.requires.1, (step.level_below c.requires.0.ready.fit c.args.a (sym is_open.ensures ∙ c.if-not-is_open.false)), step.count_is c.requires.0.ready.fit nat_at.ensures), nat_at3.ensures))
 
-pub overflow_sub-result : goal.overflow_sub-result
-overflow_sub-result c =
+pub overflow_sub-changed : goal.overflow_sub-changed
+overflow_sub-changed c =
     let is_open = c.is_open in
     let nat_at2 = c.nat_at-used in
     let nat_at3 = c.nat_at-base in
-    omega (arith, step.used_is c.requires.0.ready.fit nat_at2.ensures, nat_at3.ensures, step.base_bound c.args.schema.now c.requires.0 (c.args.a - 1) (omega (arith, c.requires.1, (step.level_below c.requires.0.ready.fit c.args.a (sym is_open.ensures ∙ c.if-not-is_open.false)))))
+    omega (arith, step.used_is c.requires.0.ready.fit nat_at2.ensures, nat_at3.ensures, step.base_bound c.args.schema.now.bytes c.requires.0 (c.args.a - 1) (omega (arith, c.requires.1, (step.level_below c.requires.0.ready.fit c.args.a (sym is_open.ensures ∙ c.if-not-is_open.false)))))
 
 pub returns : goal.returns
 returns c =
@@ -73,9 +73,9 @@ returns c =
     let nat_at3 = c.nat_at-base in
     let net_to = c.net_to-net in
     let back_to = c.back_to in
-    let le : nat_at3.result ≤ nat_at2.result = omega (arith, step.used_is c.requires.0.ready.fit nat_at2.ensures, nat_at3.ensures, step.base_bound c.args.schema.now c.requires.0 (c.args.a - 1) (omega (arith, c.requires.1, (step.level_below c.requires.0.ready.fit c.args.a (sym is_open.ensures ∙ c.if-not-is_open.false))))) in
-    let e : nat_at.result - c.args.a ≡ length (view (schema_of c.args.schema.now) c.args.area.now).levels - c.args.a = ap (λ (n : ℕ). n - c.args.a) (step.count_is c.requires.0.ready.fit nat_at.ensures) in
+    let le : nat_at3.result ≤ nat_at2.result = omega (arith, step.used_is c.requires.0.ready.fit nat_at2.ensures, nat_at3.ensures, step.base_bound c.args.schema.now.bytes c.requires.0 (c.args.a - 1) (omega (arith, c.requires.1, (step.level_below c.requires.0.ready.fit c.args.a (sym is_open.ensures ∙ c.if-not-is_open.false))))) in
+    let e : nat_at.result - c.args.a ≡ length (view (schema_of c.args.schema.now.bytes) c.args.area.now).levels - c.args.a = ap (λ (n : ℕ). n - c.args.a) (step.count_is c.requires.0.ready.fit nat_at.ensures) in
     turn.turn_words back_to.ensures
-    (turn.back_rolls (schema_of c.args.schema.now) (view (schema_of c.args.schema.now) c.args.area.now) c.args.a (sym is_open.ensures ∙ c.if-not-is_open.false)
-    ∙ ap (λ (k : ℕ). rolled (rules-book.back k (view (schema_of c.args.schema.now) c.args.area.now)) (view (schema_of c.args.schema.now) c.args.area.now)) (sym e)
+    (turn.back_rolls (schema_of c.args.schema.now.bytes) (view (schema_of c.args.schema.now.bytes) c.args.area.now) c.args.a (sym is_open.ensures ∙ c.if-not-is_open.false)
+    ∙ ap (λ (k : ℕ). rolled (rules-book.back k (view (schema_of c.args.schema.now.bytes) c.args.area.now)) (view (schema_of c.args.schema.now.bytes) c.args.area.now)) (sym e)
     ∙ step.back_answer c.requires.0.ready.fit (c.args.a - 1) (nat_at.result - c.args.a) nat_at3.result (omega (arith, c.requires.1, (step.level_below c.requires.0.ready.fit c.args.a (sym is_open.ensures ∙ c.if-not-is_open.false)), step.count_is c.requires.0.ready.fit nat_at.ensures)) nat_at3.ensures nat_at2.result (to_z w64 (of_z w64 net_to.result)) (step.used_is c.requires.0.ready.fit nat_at2.ensures) le (back _ net_to.type_inv ∙ net_to.ensures))

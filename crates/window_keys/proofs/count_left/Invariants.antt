@@ -1,7 +1,7 @@
 use mathlib.Core.Path.{◌≡◌}
-use mathlib.Core.Bool.{Bool, true}
+use mathlib.Core.Bool.{Bool}
 use mathlib.Core.List.{List, []}
-use Prim.Native.Nat.{ℕ, ◌+◌, ◌-◌, ◌≤◌, ◌<◌}
+use Prim.Native.Nat.{ℕ, ◌+◌, ◌-◌, ◌≤◌}
 use lib.IntN.{ℤ}
 use lib.ListN.{get_or, drop}
 use Rattle.schema.specs.Records.{key_of}
@@ -24,11 +24,11 @@ others_of schema area k r = except r (get_or (work_of (schema_of schema) area).t
 abbrev pub left_found_row : List ℕ → List ℤ → ℕ → ℕ → Bool → Row → SoughtKey → Days → Row → Bool
 left_found_row schema area k r clear y sought days = left_row (is_on sought days) clear (key_of (schema_of schema) k) y (others_of schema area k r)
 
--- row j is the next that is found, or the end; m of those below it are left
-abbrev pub invariant-loop-j : goal.invariant-loop-j
-invariant-loop-j l =
-    ((l.j ≤ l.n) × (l.m ≤ l.j))
-    × ((l.m + count (left_found_row l.schema l.area l.k l.r l.clear l.y l.sought l.days) (drop l.j (rows_in l.area l.children)) ≡ count (left_found_row l.schema l.area l.k l.r l.clear l.y l.sought l.days) (rows_in l.area l.children)) × (l.j < l.n → is_on l.sought l.days (get_or (rows_in l.area l.children) l.j []) ≡ true))
+-- m of the rows below row j are found and left
+abbrev pub invariant-loop-i : goal.invariant-loop-i
+invariant-loop-i l =
+    (l.j ≤ l.children.count) × (l.m ≤ l.j)
+    × (l.m + count (left_found_row l.schema.bytes l.area l.k l.turn.r l.turn.clear l.turn.new l.sought.key l.sought.days) (drop l.j (rows_in l.area l.children)) ≡ count (left_found_row l.schema.bytes l.area l.k l.turn.r l.turn.clear l.turn.new l.sought.key l.sought.days) (rows_in l.area l.children))
 
-abbrev pub decreases-loop-j : goal.decreases-loop-j
-decreases-loop-j l = l.n - l.j
+abbrev pub decreases-loop-i : goal.decreases-loop-i
+decreases-loop-i l = l.children.count - l.j

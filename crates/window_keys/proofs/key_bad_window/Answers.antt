@@ -10,8 +10,8 @@ bit_of-requires c =
 
 pub returns-then-not-bit_of : goal.returns-then-not-bit_of
 returns-then-not-bit_of c =
-    bad_off c.args.schema.now c.requires.0.ready.accepted c.args.t c.requires.1.0 c.args.k c.requires.1.1 c.args.r c.args.image _ (sym c.bit_of.ensures ∙ c.if-not-bit_of.true)
+    bad_off c.args.schema.now.bytes c.requires.0.ready.accepted c.args.t c.requires.1.0 c.args.k c.requires.1.1 c.args.r c.args.image _ (sym c.bit_of.ensures ∙ c.if-not-bit_of.true)
 
 pub bad_window-requires : goal.bad_window-requires
 bad_window-requires c =
-    (c.requires.0, windowed_key c.args.schema.now c.requires.0.ready.accepted c.args.t c.requires.1.0 c.args.k c.requires.1.1 (sym c.bit_of.ensures ∙ c.if-not-bit_of.false))
+    (c.requires.0, windowed_key c.args.schema.now.bytes c.requires.0.ready.accepted c.args.t c.requires.1.0 c.args.k c.requires.1.1 (sym c.bit_of.ensures ∙ c.if-not-bit_of.false))

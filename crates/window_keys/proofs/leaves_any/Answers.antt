@@ -28,14 +28,14 @@ returns-then-keeps_days c =
 pub rows_of-parents-requires : goal.rows_of-parents-requires
 rows_of-parents-requires c =
     let w = whole _ _ _ c.requires.0.1 in
-    (w.accepted, rw c.parent.ensures (parent_table _ _ w))
+    rw c.parent.ensures (parent_table _ _ w)
 
 pub count_left-requires : goal.count_left-requires
 count_left-requires c =
     let s = c in
     let columns = s.requires.0.1 in
     let children = children_stand _ _ _ columns s.args.area.now s.requires.0.0 c.child.ensures.0 c.rows_of-children.ensures in
-    let parents = subst (λ (t : ℕ). RowsOf s.args.schema.now t c.rows_of-parents.result) c.parent.ensures c.rows_of-parents.ensures in
+    let parents = subst (λ (t : ℕ). RowsOf s.args.schema.now.bytes t c.rows_of-parents.result) c.parent.ensures c.rows_of-parents.ensures in
     (s.requires.0, ((children, (parents, parents_some _ _ _ columns parents)), s.requires.1))
 
 pub returns : goal.returns
@@ -43,8 +43,8 @@ returns c =
     let s = c in
     let a = s.args in
     let columns = s.requires.0.1 in
-    let K = key_of (schema_of a.schema.now) a.k in
-    let others = except 0 (get_or (work_of (schema_of a.schema.now) a.area.now).tabs K.parent []) in
+    let K = key_of (schema_of a.schema.now.bytes) a.k in
+    let others = except 0 (get_or (work_of (schema_of a.schema.now.bytes) a.area.now).tabs K.parent []) in
     let rows = children_are _ _ _ columns a.area.now s.requires.0.0 c.child.ensures.0 c.rows_of-children.ensures in
     some_left _ _ _ columns a.old a.new others _ c.count_left.ensures.0
     ∙ ap (any (λ row. takes K a.old row && not (serves K row a.new))) rows

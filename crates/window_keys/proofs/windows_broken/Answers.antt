@@ -1,35 +1,26 @@
-use mathlib.Core.Path.{refl, sym, ◌∙◌}
+use mathlib.Core.Path.{refl, ◌∙◌}
+use mathlib.Core.List.{[]}
 use native.Mathlib.Omega.{arith}
 use borrow.Author.Rules.{rules}
-use Rattle.schema.specs.Records.{no_key}
-use Rattle.bridge.proofs.LoopLaws.{any_none, any_hit, any_miss}
+use borrow.Author.Tests.{tests}
+use lib.ListN.{length, get_or}
+use Rattle.schema.specs.Records.{key_of, no_key}
+use Rattle.schema.specs.Fields.{schema_of}
+use Rattle.schema.proofs.RangeChains.{any_in_range}
+use Rattle.rules.specs.Change.{bad_window}
+use Rattle.bridge.specs.Fit.{work_of}
+use Rattle.bridge.proofs.CountLaws.{any_by_number}
 use Rattle.window_keys.proofs.ClashLaws.{bad_empty_mask}
 use Rattle.window_keys.proofs.windows_broken.Goals as goal
 
 pub returns-then-windowed-eq0 : goal.returns-then-windowed-eq0
 returns-then-windowed-eq0 c =
-    bad_empty_mask c.args.schema.now c.requires.0.ready.accepted c.args.t c.requires.1 c.if-windowed-eq0.true c.args.r c.args.image _
-
-pub loop-k-init : goal.loop-k-init
-loop-k-init c = (search rules, (c.key_count-n.ensures.0, refl))
-
-pub key_bad_window-requires : goal.key_bad_window-requires
-key_bad_window-requires c =
-    (c.requires.0, (c.requires.1, omega (arith, c.loop-k.invariant.1.0, c.loop-k-test.true)))
-
-pub returns-then-key_bad_window : goal.returns-then-key_bad_window
-returns-then-key_bad_window c =
-    let l = c.loop-k in
-    let h = c.loop-k-test.true in
-    sym (l.invariant.1.1 ∙ any_hit _ _ l.k (omega (arith, l.invariant.1.0)) no_key _ refl (sym c.key_bad_window.ensures ∙ c.if-key_bad_window.true))
-
-pub loop-k-preserved : goal.loop-k-preserved
-loop-k-preserved c =
-    let l = c.loop-k in
-    let h = c.loop-k-test.true in
-    (search rules, (l.invariant.1.0, l.invariant.1.1 ∙ any_miss _ _ l.k (omega (arith, l.invariant.1.0)) no_key _ refl (sym c.key_bad_window.ensures ∙ c.if-key_bad_window.false)))
+    bad_empty_mask c.args.schema.now.bytes c.requires.0.ready.accepted c.args.t c.requires.1 c.if-windowed-eq0.true c.args.r c.args.image _
 
 pub returns : goal.returns
 returns c =
-    let l = c.loop-k in
-    sym (l.invariant.1.1 ∙ any_none _ _ l.k (omega (arith, l.invariant.1.0, c.loop-k-test.false)))
+    let a = c.args in
+    let s = schema_of a.schema.now.bytes in
+    let bad = bad_window a.t a.r a.image (get_or (work_of s a.area.now).tabs a.t []) in
+    any_in_range (λ k. bad (key_of s k)) _ _ _ 0 c.key_count.result (length s.keys) refl (omega (arith, c.key_count.ensures.0)) c.any.ensures.ran (λ x q k. search (rules, tests)) (λ x q k. search (rules, tests))
+    ∙ any_by_number bad no_key s.keys

@@ -1,11 +1,9 @@
-use mathlib.Core.Path.{◌∙◌}
-use Rattle.words.proofs.Signed.{back}
-use Rattle.windows.proofs.WindowLaws.{child_within}
+use mathlib.Core.Path.{ap}
+use Rattle.rules.specs.Keys.{first_day, end_day}
+use Rattle.windows.specs.declared.Days.TheVariants.{Within}
+use Rattle.windows.specs.WindowKey.{child_days}
 use Rattle.windows.proofs.child_days.Goals as goal
 
 pub returns : goal.returns
-returns c =
-    let a = c.args in
-    let first = c.image_value in
-    let end = c.image_value-2 in
-    child_within a.key a.image (back _ first.type_inv ∙ first.ensures) (back _ end.type_inv ∙ end.ensures)
+unfolding child_days first_day end_day
+returns c = ap (Within c.args.key.day) c.window_in.ensures

@@ -10,7 +10,7 @@ unfolding child_pairs
 returns-then-image_full_key c =
     let a = c.args in
     let full = sym c.image_full_key.ensures ∙ c.if-image_full_key.true in
-    c.image_filled.ensures ∙ sym (child_full a.key a.image ∙ ap (λ (b : Bool). b && not (null_at a.image a.key.day)) full)
+    c.is_filled.ensures ∙ sym (child_full a.key a.image ∙ ap (λ (b : Bool). b && not (null_at a.image a.key.day)) full)
 
 pub returns-else-image_full_key : goal.returns-else-image_full_key
 unfolding child_pairs

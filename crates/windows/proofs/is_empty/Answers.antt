@@ -1,15 +1,17 @@
 use mathlib.Core.Path.{ap, ap₂, ◌∙◌}
-use native.Mathlib.Numerals.{add-one}
 use lib.Signed.{le_z}
-use Rattle.words.proofs.Signed.{back}
-use Rattle.rules.specs.Rows.{value_at}
+use mir.Syntax.{w64}
+use mir.Val.{SFits}
+use mir.ValLaws.{to_z-of_z}
+use borrow.Author.Rules.{rules}
 use Rattle.rules.specs.Keys.{first_day, end_day}
+use Rattle.windows.specs.declared.Interval.{Interval}
 use Rattle.windows.proofs.is_empty.Goals as goal
 
 pub returns : goal.returns
 unfolding first_day end_day
 returns c =
-    let a = c.args in
-    let first = c.image_value-first in
-    let end = c.image_value-end in
-    ap₂ le_z (back _ end.type_inv ∙ end.ensures ∙ ap (value_at a.image) (add-one a.key.first)) (back _ first.type_inv ∙ first.ensures)
+    let window = c.window_in-window in
+    let first : SFits w64 window.result.first = search rules in
+    let end : SFits w64 window.result.end = search rules in
+    ap₂ le_z (to_z-of_z w64 _ end ∙ ap (λ (x : Interval). x.end) window.ensures) (to_z-of_z w64 _ first ∙ ap (λ (x : Interval). x.first) window.ensures)

@@ -1,10 +1,12 @@
 use mathlib.Core.Path.{sym, ap, ap₂, ◌∙◌}
-use native.Mathlib.Numerals.{add-one}
 use lib.Signed.{le_z}
-use Rattle.words.proofs.Signed.{back}
-use Rattle.rules.specs.Rows.{value_at}
+use mir.Syntax.{w64}
+use mir.Val.{SFits}
+use mir.ValLaws.{to_z-of_z}
+use borrow.Author.Rules.{rules}
 use Rattle.rules.specs.Keys.{first_day, end_day}
 use Rattle.bridge.proofs.Tests.{and_same}
+use Rattle.windows.specs.declared.Interval.{Interval}
 use Rattle.windows.proofs.WindowLaws.{days_gone, days_stay}
 use Rattle.windows.proofs.keeps_days.Goals as goal
 
@@ -17,12 +19,14 @@ pub returns : goal.returns
 unfolding first_day end_day
 returns c =
     let a = c.args in
-    let next = add-one a.key.first in
-    let first = c.image_value-first in
-    let end = c.image_value-end in
-    let first2 = c.image_value-first2 in
-    let end2 = c.image_value-end2 in
-    and_same
-    (ap₂ le_z (back _ first2.type_inv ∙ first2.ensures) (back _ first.type_inv ∙ first.ensures))
-    (ap₂ le_z (back _ end.type_inv ∙ end.ensures ∙ ap (value_at a.old) next) (back _ end2.type_inv ∙ end2.ensures ∙ ap (value_at a.new) next))
-    ∙ days_stay a.key a.old a.new (sym c.keeps_pairs.ensures ∙ c.if-not-keeps_pairs.false)
+    let before = c.window_in-before in
+    let after = c.window_in-after in
+    let fits : SFits w64 before.result.first = search rules in
+    let fits2 : SFits w64 before.result.end = search rules in
+    let fits3 : SFits w64 after.result.first = search rules in
+    let fits4 : SFits w64 after.result.end = search rules in
+    let first = to_z-of_z w64 _ fits ∙ ap (λ (x : Interval). x.first) before.ensures in
+    let end = to_z-of_z w64 _ fits2 ∙ ap (λ (x : Interval). x.end) before.ensures in
+    let first2 = to_z-of_z w64 _ fits3 ∙ ap (λ (x : Interval). x.first) after.ensures in
+    let end2 = to_z-of_z w64 _ fits4 ∙ ap (λ (x : Interval). x.end) after.ensures in
+    and_same (ap₂ le_z first2 first) (ap₂ le_z end end2) ∙ days_stay a.key a.old a.new (sym c.keeps_pairs.ensures ∙ c.if-not-keeps_pairs.false)

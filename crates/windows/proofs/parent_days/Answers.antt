@@ -1,10 +1,9 @@
-use mathlib.Core.Path.{◌∙◌}
+use mathlib.Core.Path.{ap, ◌∙◌}
 use Rattle.words.proofs.Signed.{back}
-use Rattle.windows.proofs.WindowLaws.{parent_holding}
+use Rattle.windows.specs.declared.Days.TheVariants.{Holding}
+use Rattle.windows.specs.WindowKey.{parent_days}
 use Rattle.windows.proofs.parent_days.Goals as goal
 
 pub returns : goal.returns
-returns c =
-    let a = c.args in
-    let day = c.image_value in
-    parent_holding a.key a.image (back _ day.type_inv ∙ day.ensures)
+unfolding parent_days
+returns c = ap (Holding c.args.key.first) (back _ c.value_of.type_inv ∙ c.value_of.ensures)

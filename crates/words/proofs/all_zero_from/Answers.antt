@@ -1,15 +1,15 @@
-use mathlib.Core.Path.{refl, sym, ◌∙◌}
-use Rattle.words.proofs.Zeros.{zero_none, zero_stop, zero_go}
+use mathlib.Core.Path.{refl, ◌∙◌}
+use mir.Syntax.{w64}
+use mir.Val.{SFits}
+use borrow.Author.Rules.{rules}
+use lib.IntN.{pos}
+use Rattle.rules.specs.Values.{same_word}
+use Rattle.std.proofs.lemmas.Iterator.{YieldsList-from_slice}
+use Rattle.std.proofs.lemmas.Iterator.Search.{all_from_yields_List}
+use Rattle.words.proofs.Zeros.{zero_bits, zero_rest}
 use Rattle.words.proofs.all_zero_from.Goals as goal
 
-pub loop-i-init : goal.loop-i-init
-loop-i-init c = refl
-
-pub returns-then-not-is_zero_at : goal.returns-then-not-is_zero_at
-returns-then-not-is_zero_at c = sym (c.loop-i.invariant ∙ zero_stop _ _ c.loop-i-test.true (sym c.is_zero_at.ensures ∙ c.if-not-is_zero_at.true))
-
-pub loop-i-preserved : goal.loop-i-preserved
-loop-i-preserved c = c.loop-i.invariant ∙ zero_go _ _ c.loop-i-test.true (sym c.is_zero_at.ensures ∙ c.if-not-is_zero_at.false)
-
 pub returns : goal.returns
-returns c = sym (c.loop-i.invariant ∙ zero_none _ _ c.loop-i-test.false)
+returns c =
+    all_from_yields_List (same_word (pos 0)) _ _ _ c.all.ensures.ran (YieldsList-from_slice _ c.iter.ensures.rest) (λ x b q k. (refl, let f : SFits w64 x.now = search rules in search (rules, zero_bits x.now f)))
+    ∙ zero_rest c.args.area.now c.args.from c.min.result c.min.ensures

@@ -1,19 +1,16 @@
-use mathlib.Core.Path.{◌≡◌}
+use mathlib.Core.Path.{◌≡◌, ap, ◌∙◌}
 use native.Mathlib.Omega.{arith}
-use borrow.Author.Rules.{rules}
+use Prim.Native.Nat.{ℕ, ◌-◌, ◌+◌}
 use lib.IntN.{pos}
-use lib.ListN.{length-set}
-use Rattle.words.proofs.Splice.{sets_same}
+use lib.ListN.{length, take, drop, replicate, length-drop, length-replicate}
+use lib.Seq.{length-take-le}
+use Rattle.words.proofs.Splice.{mid_sets}
 use Rattle.words.proofs.clear_part.Goals as goal
-
-pub loop-k-preserved : goal.loop-k-preserved
-loop-k-preserved c =
-    let a = c.args in
-    let l = c.loop-k in
-    (search rules, (simp length-set l.invariant.1.0, sets_same a.area.now a.from l.k (pos 0) l.invariant.1.1))
 
 pub returns : goal.returns
 returns c =
     let a = c.args in
-    let e : c.loop-k.k ≡ a.count = omega arith in
-    rw e at c.loop-k.invariant.1.1
+    let zeros = replicate a.count (pos 0) in
+    let part : length (take (a.from + a.count - a.from) (drop a.from a.area.now)) ≡ a.count = length-take-le _ (drop a.from a.area.now) (rw length-drop (omega arith)) ∙ omega arith in
+    let size : length zeros ≡ a.count = length-replicate a.count (pos 0) in
+    mid_sets a.area.now a.from _ zeros (c.fill.ensures.after (λ y e. e) ∙ ap (λ (n : ℕ). replicate n (pos 0)) part) (omega arith) (omega arith)

@@ -1,8 +1,8 @@
-use mathlib.Core.Path.{◌∙◌, ap}
 use lib.IntN.{pos}
-use Rattle.rules.specs.Values.{same_word}
-use Rattle.words.proofs.Signed.{back}
+use lib.ListN.{get_or}
+use borrow.Author.Rules.{rules}
+use Rattle.words.proofs.Zeros.{zero_bits}
 use Rattle.words.proofs.is_zero_at.Goals as goal
 
 pub returns : goal.returns
-returns c = c.same_word.ensures ∙ ap (same_word (pos 0)) (back _ c.same_word-arg-1.given)
+returns c = zero_bits (get_or c.args.area.now c.args.i (pos 0)) (search rules)

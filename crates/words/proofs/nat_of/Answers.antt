@@ -1,11 +1,13 @@
-use Rattle.words.proofs.Signed.{neg_nat, nonneg, nonneg_nat}
+use mathlib.Core.Path.{ap, ◌∙◌}
+use borrow.Author.Rules.{rules}
+use lib.IntN.{nat_abs}
+use mir.Syntax.{w64}
+use mir.Val.{SFits}
+use mir.ValLaws.{to_z-of_z}
+use Rattle.words.proofs.Signed.{max_nat}
 use Rattle.words.proofs.nat_of.Goals as goal
 
-pub returns-then-w-lt0 : goal.returns-then-w-lt0
-returns-then-w-lt0 c = neg_nat c.args.w c.ranges.w c.if-w-lt0.true
-
-pub overflow_cast-result : goal.overflow_cast-result
-overflow_cast-result c = nonneg c.args.w c.ranges.w c.if-w-lt0.false
-
 pub returns : goal.returns
-returns c = nonneg_nat c.args.w c.ranges.w c.if-w-lt0.false
+returns c =
+    let fits : SFits w64 c.max.result = search rules in
+    rw (to_z-of_z w64 c.max.result fits) (ap nat_abs (rw (to_z-of_z w64 c.args.w c.ranges.w) at c.max.ensures.value ∙ max_nat c.args.w))

@@ -7,4 +7,4 @@ use Rattle.words.proofs.write_row.Goals as goal
 pub returns : goal.returns
 returns c =
     let a = c.args in
-    rw c.put_row.ensures (lent_sets a.start (a.end - a.start) (take a.stride a.image) a.area.now (a.r * a.stride) (simp length-take (omega arith)))
+    rw c.put_words.ensures (lent_sets a.start (a.end - a.start) (take a.stride a.image) a.area.now (a.r * a.stride) (simp length-take (omega arith)))

@@ -1,6 +1,0 @@
-use native.Mathlib.Omega.{arith}
-use Rattle.schema.proofs.SizeLaws.{size_all}
-use Rattle.fields.proofs.area_length.Goals as goal
-
-pub returns : goal.returns
-returns c = (size_all _ c.journal_start.ensures.0 c.room.ensures.0, omega arith)
