@@ -3,12 +3,13 @@
 use mathlib.Core.Path.{◌≡◌, sym, ap, ap₂, ◌∙◌}
 use mathlib.Core.List.{List, ◌∷◌, map, reverse, append-nil}
 use Prim.Native.Nat.{ℕ, zero, suc, ◌+◌, ◌*◌, ◌-◌, ◌/◌, ◌%◌, ◌≤◌, ◌<◌}
+use native.Mathlib.Numerals.{add-one}
 use native.Mathlib.Omega.{arith}
 use borrow.Author.Tests.{le-leb, lt-leb, ne_eqb}
 use lib.Dec.{eqb, leb, ltb→lt}
 use lib.IntN.{ℤ, pos}
 use lib.ListN.{length, get_or, set, take, drop, replicate, length-drop}
-use lib.Seq.{sets, length-take-le}
+use lib.Seq.{sets, length-take-le, take_all}
 use Rattle.schema.specs.Fields.{schema_of}
 use Rattle.schema.specs.Ranges.{all}
 use Rattle.schema.specs.Records.{Schema, table_of}
@@ -40,6 +41,10 @@ full_is {s} {a} f {used} {room} e g = full_test used (length (work_of s a).spare
 
 pub use_in_room : {s : Schema} {a : List ℤ} → Fit s a → nat_of (get_or a 2 𝟘) ≤ s.room
 use_in_room f = omega (arith, spare_is f)
+
+-- a place and a row of nine words, written one behind the other, are a record of ten words
+pub record_is : (a : List ℤ) (at : ℕ) (z z' : ℤ) (old : List ℤ) → z ≡ z' → length old ≡ 9 → sets (set a at z) (at + 1) (take 9 old) ≡ sets a at (z' ∷ old)
+record_is a at z z' old e h = rw (e, add-one, take_all 9 old (omega arith))
 
 -- ---- the next record
 module _ {b : List ℕ} {a : List ℤ} {t r : ℕ} (h : Placed b a t r) (room : 0 < length (work_of (schema_of b) a).spare) where

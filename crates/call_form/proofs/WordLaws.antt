@@ -51,8 +51,13 @@ module _ (ws : List ℤ) (m : ℕ) where
   fits_at i = value_fits (bit i m) (get_or ws (4 + i) 𝟘)
 
   -- the values from column i on
-  values_from : ℕ → Bool
+  unfoldable pub values_from : ℕ → Bool
   values_from i = same_words (drop (4 + i) ws) (held m i (drop (4 + i) ws))
+
+  -- behind the last word there is none that could fail
+  pub values_none : (i : ℕ) → length ws ≤ 4 + i → values_from i ≡ true
+  unfolding values_from same_words held
+  values_none i h = rw (drop_of_length-le ws h) refl
 
   values_more : (i : ℕ) → 4 + i < length ws → fits_at i && values_from (suc i) ≡ values_from i
   unfolding values_from same_words held

@@ -32,7 +32,8 @@ use Rattle.rows.specs.Sought.{has_sought, SoughtIn}
 use Rattle.rows.specs.Standing.{rows_in, RowsOf}
 use Rattle.rows.proofs.CellLaws.{null_in_lem}
 use Rattle.rows.proofs.TableLaws.{rows_are}
-use Rattle.skips.specs.Skipped.{both}
+use Rattle.skips.specs.Skipped.{both, Skipped}
+use Rattle.skips.proofs.SkipLaws.{passed_by, first_fails}
 use Rattle.scans.specs.FirstFrom.{FirstFrom, FirstRow, FirstIs}
 use Rattle.scans.proofs.FirstLaws.{is_same}
 use Rattle.found.specs.declared.Cell.{Cell}
@@ -53,6 +54,10 @@ null_is a p w c h e f = f ∙ ap (bit c) e ∙ sym (null_in_lem a p w c h)
 pub null_and_live : (c : ℕ) (row : Row) → both (null_in c) live row ≡ has_null c row
 unfolding both has_null
 null_and_live c row = and_comm (null_in c row) (live row)
+
+-- rows that are passed over for a value in column c have no NULL there
+pub filled_passed : (c : ℕ) {a : List ℤ} {t : TableRows} {from x : ℕ} → Skipped (null_in c) a t from x → Skipped (has_null c) a t from x
+filled_passed c = passed_by (λ row e. sym (null_and_live c row) ∙ first_fails (null_in c) live row e)
 
 -- ---- a value is sought
 bit_one : (b : Bool) → bit 0 (one b) ≡ b

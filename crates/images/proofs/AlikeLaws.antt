@@ -172,6 +172,11 @@ written_alike columns {x} {y} a =
 
 -- ---- a row with one column set
 
+-- a cell set, and the row then written, are the row with its column set
+pub row_set_is : (columns c : ℕ) (null : Bool) (v : ℤ) (x : Row) {u : ℤ} {y z : Row} → u ≡ v → y ≡ set_cell c null u x → z ≡ normal columns y → z ≡ row_set columns c null v x
+unfolding row_set
+row_set_is columns c null v x d e f = f ∙ ap (normal columns) (e ∙ ap (λ (u : ℤ). set_cell c null u x) d)
+
 pub row_option : (columns : ℕ) → columns ≤ 8 → (c : ℕ) → c < 8 → (value : Option ℤ) (x : Row) → length x ≡ 9 → (y : Row) {z : Row} → MatchOption value (y ≡ set_cell c true 𝟘 x) (λ v. y ≡ set_cell c false v x)
     → z ≡ live_image columns (nat_of (get_or y 0 𝟘)) (drop 1 y) → MatchOption value ((u : ℤ) → z ≡ row_set columns c true u x) (λ v. z ≡ row_set columns c false v x)
 unfolding row_set

@@ -9,7 +9,7 @@ use native.Mathlib.Numerals.{add-one}
 use native.Mathlib.Omega.{arith}
 use lib.IntN.{ℤ, pos}
 use lib.ListN.{length, get_or, set, take, drop, length-drop, drop_of_length-le}
-use lib.Seq.{drop-cons, take_all, take-suc-set, drop-set-lt}
+use lib.Seq.{drop-cons, drop-drop, take_all, take-suc-set, drop-set-lt}
 use Rattle.std.proofs.Math.Pow.{mod-mod-pow}
 use Rattle.std.proofs.lemmas.List.{set-get_or}
 use Rattle.std.specs.Option.{MatchOption, is_none, unwrap_or}
@@ -19,7 +19,7 @@ use Rattle.schema.specs.declared.Action.{Action}
 use Rattle.schema.specs.declared.Action.TheVariants.{NoAction, Restrict, SetNull, SetDefault, Cascade}
 use Rattle.schema.specs.Bytes.{bit}
 use Rattle.schema.specs.Records.{Table, ForeignKey, Schema, table_of}
-use Rattle.rules.specs.Lists.{𝟘}
+use Rattle.rules.specs.Lists.{𝟘, padded}
 use Rattle.rules.specs.Values.{nat_of}
 use Rattle.rules.specs.Rows.{Row, null_at, value_at, mask_of, held, live_image, normal}
 use Rattle.rules.specs.Change.{flag, set_cell, fills_null, filler, refilled, child_image}
@@ -77,6 +77,14 @@ live_normal columns x h l =
     let few : 0 + length (drop 1 x) ≤ 8 = omega (arith, length-drop 1 x) in
     let low : n % 256 % 2 ^ columns ≡ n % 2 ^ columns = ap (λ (k : ℕ). n % 2 ^ k % 2 ^ columns) (sym whole) ∙ mod-mod-pow n (8 - columns) columns in
     ap₂ (λ (k : ℕ) (vs : List ℤ). pos (256 + k) ∷ vs) (sym low) (held_low n 0 (drop 1 x) few)
+
+-- the nine words of a call from word 3 on have its values behind the mask
+pub call_image : (call : List ℤ) → length call ≡ 12 → {x : Row} → x ≡ padded 9 (take 9 (drop 3 call)) → drop 1 x ≡ drop 4 call
+call_image call l e =
+    let n : length (drop 3 call) ≡ 9 = length-drop 3 call ∙ (omega arith) in
+    let t : take 9 (drop 3 call) ≡ drop 3 call = take_all 9 (drop 3 call) (omega arith) in
+    let p : padded 9 (drop 3 call) ≡ drop 3 call = rw n (append-nil (drop 3 call)) in
+    ap (drop 1) (e ∙ ap (padded 9) t ∙ p) ∙ drop-drop 1 3 call
 
 -- ---- what an action fills in
 

@@ -2,21 +2,27 @@
 -- Assumes nothing.
 use mathlib.Core.Path.{◌≡◌, refl, sym, ap, ◌∙◌, subst}
 use mathlib.Core.Bool.{Bool, true, false}
-use Prim.Native.Nat.{ℕ, ◌+◌, ◌-◌, ◌/◌, ◌%◌, ◌^◌, ◌<◌}
+use Prim.Native.Nat.{ℕ, ◌+◌, ◌-◌, ◌/◌, ◌%◌, ◌^◌, ◌<◌, ◌≤◌}
 use native.Mathlib.Nat.{div-add-mod'}
 use native.Mathlib.Omega.{arith}
 use mir.Syntax.{w64}
 use borrow.Author.Tests.{eqb-true, eqb-false, eq-eqb}
 use lib.Bits.{bit_and, or_lt}
 use lib.Dec.{eqb}
+use lib.Pow.{pow_pos, pow_mono}
 use Rattle.std.proofs.Math.Pow.{pow-lt}
 use Rattle.std.specs.Int.{bit_at, bit_not}
 use Rattle.std.specs.Int.RustNames.{bit_or}
 use Rattle.std.proofs.lemmas.Nat.{and_le_l}
 use Rattle.std.proofs.lemmas.Nat.Bits.{bit_at-lt, bit_at_or, bit_at_and, bit_at_not, bit_at-pow_same, bit_at-pow_other, bit_at_cat_low, same_from_bits_below}
+use Rattle.schema.specs.Bounds.{Within}
 use Rattle.schema.specs.Bytes.{bit}
 use Rattle.schema.proofs.MaskLaws.{added_same, added_other}
 use Rattle.rules.specs.Change.{flag}
+
+-- the power of a column, or of the one behind the last, is from 1 to 256
+pub power_within : {x : ℕ} (c : ℕ) → c ≤ 8 → x ≡ 2 ^ c → Within 1 256 x
+power_within c h e = rw e (record { low = pow_pos c; high = pow_mono {j = 8} h })
 
 -- the bits of eight columns
 pub bit_low : (i m : ℕ) → i < 8 → bit i (m % 256) ≡ bit i m

@@ -163,12 +163,21 @@ module _ (p : Row → Bool) (a : List ℤ) (t : TableRows) where
         count_past (x - from) from (omega (arith, whole, f.high)) (λ j l m. less _ (f.skipped j l (omega (arith, m, whole))))
         ∙ ap (λ n. count p (drop n (rows_in a t))) whole
 
+    -- row j, by whether it is one, and those from the next found on
+    pub count_turn : {j x : ℕ} → j < t.count → {b : Bool} → p (get_or (rows_in a t) j []) ≡ b → FirstRow q a t (j + 1) x → count p (drop j (rows_in a t)) ≡ one b + count p (drop x (rows_in a t))
+    count_turn {j} l {b} h f =
+        count_from j l ∙ ap (λ b. one b + count p (drop (j + 1) (rows_in a t))) h ∙ ap (λ n. one b + n) (count_searched f)
+
     pub count_none_left : {from : ℕ} → FirstIs q a t from None → count p (drop from (rows_in a t)) ≡ 0
     count_none_left f = count_searched f ∙ count_end (omega arith)
 
     -- the row that it finds, by whether it is one, and those after it
     pub count_next : {from x : ℕ} → FirstIs q a t from (Some x) → {b : Bool} → p (get_or (rows_in a t) x []) ≡ b → count p (drop from (rows_in a t)) ≡ one b + count p (drop (x + 1) (rows_in a t))
     count_next {x = x} f h = count_searched f.1 ∙ count_from x f.0 ∙ ap (λ b. one b + count p (drop (x + 1) (rows_in a t))) h
+
+  -- a search for those that are counted passes over none
+  pub count_first : {from x : ℕ} → FirstRow p a t from x → count p (drop from (rows_in a t)) ≡ count p (drop x (rows_in a t))
+  count_first f = count_searched (λ row h. h) f
 
 -- ---- a key of one column is a value
 module _ (key : SoughtKey) {w : ℕ} (k : SoughtIn w key) (e : key.n ≡ 1) where

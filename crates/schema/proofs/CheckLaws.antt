@@ -61,6 +61,11 @@ pub starts_is : (start bs : List ℕ) → pointwise eqb start (take (length star
 unfolding Check.starts_with
 starts_is = prefix_is
 
+-- bytes that are long enough start with others where each byte is the same
+pub starts_by_bytes : (start bs : List ℕ) {b : Bool} → length start ≤ length bs → all_from (Check.same_at bs start) (length start) 0 ≡ b → b ≡ Check.starts_with start bs
+unfolding Check.starts_with
+starts_by_bytes start bs h e = rw (le-leb (length start) (length bs) h) (sym e)
+
 module _ (bs : List ℕ) where
   pub header_short : length bs < 16 → false ≡ Check.header_rules bs
   unfolding Check.header_rules

@@ -6,7 +6,7 @@ use mathlib.Core.Logic.{◌⊎◌, inl, inr}
 use Prim.Native.Nat.{ℕ, zero, suc, ◌+◌, ◌-◌, ◌<◌, ◌≤◌}
 use native.Mathlib.Nat.{zero-add}
 use native.Mathlib.Omega.{arith}
-use borrow.Author.Tests.{ltb-true, ne_false}
+use borrow.Author.Tests.{ltb-true, eqb-true, eq-eqb, ne_false}
 use lib.Count.{ones}
 use lib.Dec.{ltb, eqb}
 use lib.IntN.{ℤ, pos}
@@ -29,7 +29,7 @@ use Rattle.schema.proofs.Formed.{formed, Sizes, Codes}
 use Rattle.schema.proofs.CheckLaws.{parent_no}
 use Rattle.schema.proofs.ListLaws.{length_from, get_list}
 use Rattle.schema.proofs.SchemaLaws.{tables_are, keys_are, room_is, table_is, key_is, accepted_formed}
-use Rattle.schema.proofs.KeyLaws.{unique_byte, parent_distinct, parent_rest, child_key_is, unique_columns_are, parent_key, parent_below, has_end}
+use Rattle.schema.proofs.KeyLaws.{any_some, unique_byte, parent_distinct, parent_rest, child_key_is, unique_columns_are, parent_key, parent_below, has_end}
 use Rattle.schema.proofs.MaskLaws.{mask_ones}
 
 pub byte_assoc : (bs : List ℕ) (a b i : ℕ) → Bytes.byte bs (a + (b + i)) ≡ Bytes.byte bs (a + b + i)
@@ -182,10 +182,35 @@ module _ (bs : List ℕ) (acc : Check.check_schema bs ≡ Accepted) where
         (ap (λ (a : Bool). not (a && Fields.has_end bs k))
         (ap (λ (x : ℕ). any_from (λ i. eqb (Fields.unique_of bs (Fields.parent_of bs k) i) x) 4 0) e ∙ sym (parent_rest bs (formed bs w) k l)))
 
+    -- or by a number that no byte tells from that mask
+    pub broken_by_bytes : (m : ℕ) → Fields.parent_of bs k < Fields.table_count bs → ((u : ℕ) → u < 256 → eqb u m ≡ eqb u (column_mask (Fields.parent_column_of bs k) (Fields.width_of bs k))) → not (any_from (λ i. eqb (Fields.unique_of bs (Fields.parent_of bs k) i) m) 4 0 && Fields.has_end bs k) ≡ (key_of (schema_of bs) k).broken
+    unfolding Fields.is_broken Fields.unique_is
+    broken_by_bytes m l e =
+        let f = formed bs w in
+        read_broken
+        (ap (λ (a : Bool). not (a && Fields.has_end bs k))
+        (any_same _ (Fields.unique_is bs k) 4 0 (λ i g. e (Fields.unique_of bs (Fields.parent_of bs k) i) (unique_byte bs f (Fields.parent_of bs k) l i (omega arith)))
+        ∙ sym (parent_rest bs f k l)))
+
     -- and the mask has as many ones as there are columns
     pub parent_ones : ones (column_mask (Fields.parent_column_of bs k) (Fields.width_of bs k)) ≡ length (child_key (key_of (schema_of bs) k))
     parent_ones =
         mask_ones (Fields.parent_column_of bs k) (Fields.width_of bs k) (parent_distinct bs (formed bs w) k (omega (arith, keys_are bs))) ∙ sym width_is
+
+    -- a byte that is a number that no byte tells from the mask has as many
+    pub ones_by_bytes : (m : ℕ) → ((u : ℕ) → u < 256 → eqb u m ≡ eqb u (column_mask (Fields.parent_column_of bs k) (Fields.width_of bs k))) → (u : ℕ) → u < 256 → u ≡ m → ones u ≡ length (child_key (key_of (schema_of bs) k))
+    ones_by_bytes m e u l q =
+        let is : u ≡ column_mask (Fields.parent_column_of bs k) (Fields.width_of bs k) = eqb-true _ _ (sym (e u l) ∙ eq-eqb u m q) in
+        ap ones is ∙ parent_ones
+
+    -- such a number that is a unique key of the parent table is the mask
+    pub parent_mask_is : (m : ℕ) → Fields.parent_of bs k < Fields.table_count bs → ((u : ℕ) → u < 256 → eqb u m ≡ eqb u (column_mask (Fields.parent_column_of bs k) (Fields.width_of bs k))) → any_from (λ i. eqb (Fields.unique_of bs (Fields.parent_of bs k) i) m) 4 0 ≡ true → m ≡ column_mask (Fields.parent_column_of bs k) (Fields.width_of bs k)
+    parent_mask_is m l e a =
+        let s = any_some (λ i. eqb (Fields.unique_of bs (Fields.parent_of bs k) i) m) 4 0 a in
+        let u : ℕ = Fields.unique_of bs (Fields.parent_of bs k) s.place in
+        let is : u ≡ m = eqb-true _ _ s.passes in
+        let b : u < 256 = unique_byte bs (formed bs w) (Fields.parent_of bs k) l s.place (omega (arith, s.below)) in
+        sym is ∙ eqb-true _ _ (sym (e u b) ∙ eq-eqb u m is)
 
     pub read_deferred : {r : Bool} → r ≡ eqb (Fields.deferred_of bs k) 1 → r ≡ (key_of (schema_of bs) k).deferred
     unfolding key_from

@@ -1,10 +1,11 @@
 -- Rows that are passed over do not pass the test; rows without the words of a sought key have not the key.
 -- Assumes nothing.
 use mathlib.Core.Path.{◌≡◌, refl, sym, ◌∙◌, ap}
-use mathlib.Core.Bool.{Bool, true, false, not, ◌&&◌, ◌||◌, true≢false, and-false}
+use mathlib.Core.Bool.{Bool, true, false, not, ◌&&◌, ◌||◌, true≢false, false≢true, and-false}
 use mathlib.Core.List.{List, [], ◌∷◌}
 use Prim.Native.Nat.{ℕ, zero, suc, ◌+◌, ◌*◌, ◌-◌, ◌≤◌, ◌<◌}
 use native.Mathlib.Nat.{mul-le-mul_right}
+use native.Mathlib.Numerals.{add-one}
 use native.Mathlib.Omega.{arith}
 use borrow.Author.Tests.{leb-true, leb-false}
 use lib.Dec.{leb}
@@ -33,7 +34,8 @@ use Rattle.folding.specs.Masks.{masked, first_mask}
 use Rattle.folding.proofs.FoldLaws.{masked_same}
 use Rattle.skips.specs.declared.Word.{Word}
 use Rattle.skips.specs.declared.MaskedWord.{MaskedWord}
-use Rattle.skips.specs.Skipped.{has_word, has_masked, both, word_of, masked_word, one_of_four, Skipped}
+use Rattle.skips.specs.declared.Both.{Both}
+use Rattle.skips.specs.Skipped.{has_word, has_masked, both, word_of, first_words, masked_word, masked_pair, one_of_four, Skipped}
 
 -- ---- a row that has a sought key has its words
 
@@ -133,6 +135,30 @@ first_fails p q row e = rw e refl
 pub passed_by : {p q : Row → Bool} {a : List ℤ} {t : TableRows} {from x : ℕ} → ((row : Row) → q row ≡ false → p row ≡ false) → Skipped q a t from x → Skipped p a t from x
 passed_by f h = record { low = h.low; high = h.high; none = λ j l m. f _ (h.none j l m) }
 
+never : {a b : Bool} → (a ≡ true → b ≡ true) → b ≡ false → a ≡ false
+never {a = true} f e = absurd (false≢true (sym e ∙ f refl))
+never {a = false} f e = refl
+
+-- those passed over for the words of the first two columns of a key have not the key
+pub key_passed : {a : List ℤ} {t : TableRows} {from x : ℕ} (key : SoughtKey) → 2 ≤ key.n → key.folded ≡ 0 → {w : ℕ} → SoughtIn w key → {s : Both Word Word} → s ≡ first_words key → Skipped (both (has_word s.first) (has_word s.second)) a t from x → Skipped (has_sought key) a t from x
+unfolding first_words
+key_passed key two plain k e =
+    passed_by (λ row h. never (words_with key k plain two row) (ap (λ (s : Both Word Word). both (has_word s.first) (has_word s.second) row) (sym e) ∙ h))
+
+-- those passed over for the masked word of a column of a key have not the key
+pub masked_passed : {a : List ℤ} {t : TableRows} {from x : ℕ} (key : SoughtKey) (i : ℕ) → i < key.n → {w : ℕ} → SoughtIn w key → {s : MaskedWord} → s ≡ masked_word key i → Skipped (has_masked s) a t from x → Skipped (has_sought key) a t from x
+masked_passed key i l k e = passed_by (λ row h. never (masked_with key k i l row) (ap (λ (s : MaskedWord). has_masked s row) (sym e) ∙ h))
+
+-- those passed over for the masked words of its first two columns have not the key
+pub far_passed : {a : List ℤ} {t : TableRows} {from x : ℕ} (key : SoughtKey) → 2 ≤ key.n → {w : ℕ} → SoughtIn w key → {s : Both MaskedWord MaskedWord} → s ≡ masked_pair key → Skipped (both (has_masked s.first) (has_masked s.second)) a t from x → Skipped (has_sought key) a t from x
+unfolding masked_pair
+far_passed key two k e =
+    passed_by (λ row h. never (masks_with key k two row) (ap (λ (s : Both MaskedWord MaskedWord). both (has_masked s.first) (has_masked s.second) row) (sym e) ∙ h))
+
+-- those passed over for a word have not its value
+pub value_passed : {a : List ℤ} {t : TableRows} {from x : ℕ} (c : ℕ) (v : ℤ) → Skipped (has_word (record { place = c + 1; value = v })) a t from x → Skipped (has_value c v) a t from x
+value_passed c v = passed_by (λ row h. never (word_of_value c v row) (ap (λ (m : ℕ). has_word (record { place = m; value = v }) row) (sym (add-one c)) ∙ h))
+
 -- ---- one row, four rows
 
 pub word_is : (a : List ℤ) (p w : ℕ) (s : Word) → s.place < w → same_word (get_or a (p + s.place) 𝟘) s.value ≡ has_word s (row_in a p w)
@@ -164,6 +190,10 @@ none_of false false false d h = (refl, (refl, (refl, h)))
 
 -- ---- the loop
 module _ (p : Row → Bool) (a : List ℤ) (t : TableRows) (from : ℕ) where
+  -- before the first row none is passed over
+  pub skip_start : from ≤ t.count → Skipped p a t from from
+  skip_start h = record { low = omega arith; high = h; none = λ j l m. absurd (omega (arith, l, m)) }
+
   -- the row in the words
   abbrev passes : ℕ → Bool
   passes k = p (row_in a (t.start + k * t.width) t.width)

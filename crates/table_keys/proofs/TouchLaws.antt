@@ -13,10 +13,10 @@ use Rattle.schema.specs.Marks.{marked, Marks}
 use Rattle.schema.specs.Records.{Window, ForeignKey, key_of}
 use Rattle.schema.specs.Fields.{schema_of}
 use Rattle.schema.proofs.RangeLaws.{and_left, and_right}
-use Rattle.schema.proofs.MaskLaws.{bit_none, marks_more}
+use Rattle.schema.proofs.MaskLaws.{bit_none, marks_start, marks_more}
 use Rattle.rules.specs.Keys.{uses}
 use Rattle.bridge.proofs.Tests.{fails}
-use Rattle.table_keys.specs.Touched.{touches, whole_at, broken_at, window_at, broken_used, WholeKeys, WindowKeys, with_key}
+use Rattle.table_keys.specs.Touched.{touches, whole_at, broken_at, window_at, broken_used, WholeKeys, WindowKeys, KeysOf, with_key}
 use Rattle.table_keys.specs.declared.TableKeys.{TableKeys}
 
 abbrev pub keys_with : ℕ → ℕ → ℕ → TableKeys
@@ -115,6 +115,10 @@ pub record KeysBelow (b : List ℕ) (t n : ℕ) (x : TableKeys) : Type 0 where
   pub broken : Marks (λ k. broken_at t (key_of (schema_of b) k)) n x.broken
 
 module _ (b : List ℕ) (t : ℕ) where
+  -- empty masks have those of no foreign key
+  pub below_start : KeysBelow b t 0 (keys_with 0 0 0)
+  below_start = record { whole = marks_start _; windowed = marks_start _; broken = marks_start _ }
+
   module _ (n : ℕ) (x : TableKeys) (h : KeysBelow b t n x) where
     pub below_more : touches t (key_of (schema_of b) n) ≡ true → KeysBelow b t (n + 1) (with_key x n (key_of (schema_of b) n))
     unfolding with_key
@@ -134,6 +138,15 @@ module _ (b : List ℕ) (t : ℕ) where
           whole = marks_more _ n x.whole h.whole false f.0;
           windowed = marks_more _ n x.windowed h.windowed false f.1.0;
           broken = marks_more _ n x.broken h.broken false f.1.1;
+        }
+
+    -- with those of all foreign keys they are the masks of the table
+    pub below_all : n ≡ length (schema_of b).keys → KeysOf b t x
+    below_all e =
+        record {
+          whole = record { each = λ k l. h.whole.each k (omega (arith, l, e)) };
+          windowed = record { each = λ k l. h.windowed.each k (omega (arith, l, e)) };
+          broken = record { each = λ k l. h.broken.each k (omega (arith, l, e)) };
         }
 
 -- ---- in the mask of the keys that touch a table and are not broken
