@@ -1,10 +1,11 @@
 -- Refusal 4: the call that a request is, and what the call's words must give.
 -- Assumes nothing.
-use Rattle.std.specs.Prelude.{◌≡◌, Bool, ◌&&◌, List, ℕ, ℤ, Option, Some, None, length, get_or, drop}
+use Rattle.std.specs.Prelude.{◌≡◌, Bool, ◌&&◌, List, ℕ, ℤ, Option, Some, None, Result, Ok, Err, length, get_or, drop}
 use Rattle.schema.specs.Check.{Accepted, check_schema}
 use Rattle.schema.specs.Records.{Schema, table_of}
 use Rattle.rules.specs.Lists.{𝟘}
 use Rattle.rules.specs.Values.{nat_of, natural, all_zero}
+use Rattle.rules.specs.declared.Refusal.{Refusal}
 use Rattle.rules.specs.Calls.{Call, malformed, insert, update, delete, begin, savepoint, release, rollback_to, rollback, commit, delete_where, update_where, formed_if, in_table, row_fits, level_number, allowed}
 use Rattle.call_form.specs.declared.RowPlace.{RowPlace}
 use Rattle.call_form.specs.declared.ColumnPlace.{ColumnPlace}
@@ -29,6 +30,11 @@ call_of (UpdateWhere p) ws = update_where p.table p.column (nat_of (get_or ws 3 
 abbrev pub asked : Option Request → List ℤ → Call
 asked (Some r) ws = call_of r ws
 asked None ws = malformed
+
+-- the call as it was read; where it could not be, refusal 4 refuses it
+abbrev pub call_read : Result Request Refusal → List ℤ → Call
+call_read (Ok r) ws = call_of r ws
+call_read (Err e) ws = malformed
 
 -- the call, where refusal 4 does not refuse it
 unfoldable pub judged : Schema → Call → Call

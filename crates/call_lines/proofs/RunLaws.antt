@@ -20,7 +20,7 @@ use Rattle.decoding.specs.CallBytes.{words_at}
 use Rattle.run_tally.specs.declared.Tally.{Tally}
 use Rattle.lines.specs.Text.{put}
 use Rattle.lines.proofs.TextLaws.{then}
-use Rattle.reports.specs.declared.Progress.{Progress}
+use Rattle.reports.specs.declared.Reporter.{Reporter}
 use Rattle.reports.specs.Reports.{line_of, counted_in}
 use Rattle.call_lines.specs.Runs.{call_at, call_count, calls_of, lines_of, counted_all, Run, run_at, ran_call, ran, after}
 
@@ -114,6 +114,6 @@ module _ (schema bytes : List ℕ) where
   run_all_lem r = run_from_lem (call_count (length bytes)) 0 r
 
 -- of a run, the area and the tally
-pub ran_after : (schema bytes : List ℕ) (area : List ℤ) (p : Progress) {next : Run} → next ≡ ran schema bytes (run_at area p) → (next.area, next.tally) ≡ after schema bytes area p.tally
+pub ran_after : (schema bytes : List ℕ) (area : List ℤ) (p : Reporter) {next : Run} → next ≡ ran schema bytes (run_at area p) → (next.area, next.tally) ≡ after schema bytes area p.tally
 unfolding ran after
 ran_after schema bytes area p e = ap (λ r. (r.area, r.tally)) e

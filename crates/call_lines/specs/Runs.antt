@@ -9,7 +9,7 @@ use Rattle.rules.specs.Engine.{call_on, run_on}
 use Rattle.decoding.specs.CallBytes.{words_at}
 use Rattle.run_tally.specs.declared.Tally.{Tally}
 use Rattle.lines.specs.Text.{put, held}
-use Rattle.reports.specs.declared.Progress.{Progress}
+use Rattle.reports.specs.declared.Reporter.{Reporter}
 use Rattle.reports.specs.Reports.{line_of, counted_in}
 
 -- ---- the calls
@@ -43,8 +43,8 @@ pub record Run : Type 0 where
   pub tally : Tally
   pub text : ℕ × List ℕ
 
--- a run by its area and progress
-abbrev pub run_at : List ℤ → Progress → Run
+-- a run by its area and reporter
+abbrev pub run_at : List ℤ → Reporter → Run
 run_at area p = record { area = area; tally = p.tally; text = held p.text }
 
 -- the run after one call

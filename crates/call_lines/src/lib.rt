@@ -8,7 +8,7 @@ ghost use Rattle.laws.specs.Reached.{Reached};
 ghost use Rattle.lines.specs.Text.{SameBuffer};
 ghost use Rattle.call_lines.specs.Runs.{call_at, call_count, run_at, ran};
 
-use reports::Progress;
+use reports::Reporter;
 use rules::Answer;
 
 // Carries out call i of the bytes; one that is cut short is handed over as no words.
@@ -25,15 +25,15 @@ fn call_at(schema: &[u8], area: &mut [i64], bytes: &[u8], i: usize) -> Answer
 }
 
 // Runs the calls that the bytes are on an area that calls led to, and writes their lines.
-pub fn run_calls(schema: &[u8], area: &mut [i64], bytes: &[u8], progress: &mut Progress)
-    requires { Reached schema.now area.old × (progress.old.text.used + 64 * call_count (length bytes.now) ≤ length progress.old.text.out.now) }
-    ensures ran { run_at area.new progress.new ≡ ran schema.now bytes.now (run_at area.old progress.old) }
-    ensures used { progress.new.text.used ≤ length progress.old.text.out.now }
-    ensures same { SameBuffer progress.old.text progress.new.text }
+pub fn run_calls(schema: &[u8], area: &mut [i64], bytes: &[u8], reporter: &mut Reporter)
+    requires { Reached schema.now area.old × (reporter.old.text.used + 64 * call_count (length bytes.now) ≤ length reporter.old.text.out.now) }
+    ensures ran { run_at area.new reporter.new ≡ ran schema.now bytes.now (run_at area.old reporter.old) }
+    ensures used { reporter.new.text.used ≤ length reporter.old.text.out.now }
+    ensures same { SameBuffer reporter.old.text reporter.new.text }
     ensures reached { Reached schema.now area.new }
 {
     for i in 0..bytes.len().div_ceil(96) {
         let answer = call_at(schema, area, bytes, i);
-        progress.report(answer);
+        reporter.report(answer);
     }
 }

@@ -12,7 +12,8 @@ use Rattle.schema.specs.Bytes.{bit}
 use Rattle.schema.specs.Records.{table_of}
 use Rattle.schema.specs.Fields.{schema_of}
 use Rattle.std.specs.Prelude.{None, Some, Err}
-use Rattle.rules.specs.declared.Refusal.TheVariants.{RowState}
+use Rattle.rules.specs.declared.Refusal.{Refusal}
+use Rattle.rules.specs.declared.Refusal.TheVariants.{BadCall, RowState}
 use Rattle.rules.specs.Lists.{𝟘}
 use Rattle.rules.specs.Values.{nat_of}
 use Rattle.rules.specs.Rows.{Row, row_at, live}
@@ -29,7 +30,7 @@ use Rattle.call_form.specs.declared.RowPlace.{RowPlace}
 use Rattle.call_form.specs.declared.ColumnPlace.{ColumnPlace}
 use Rattle.call_form.specs.declared.Request.{Request}
 use Rattle.call_form.specs.declared.Request.TheVariants as request
-use Rattle.call_form.specs.Requests.{call_of, judged}
+use Rattle.call_form.specs.Requests.{call_of, call_read, judged}
 use Rattle.call_form.proofs.Requested.{insert_row, update_row, delete_row, delete_found, update_found, update_set, release_level, rollback_level}
 use Rattle.found.specs.declared.Cell.{Cell}
 use Rattle.found.specs.declared.Given.TheVariants.{Deleted, Set}
@@ -72,6 +73,18 @@ module _ (b : List ℕ) (a : List ℤ) (p : RowPlace) (f : Fit (schema_of b) a) 
       same true false h = sym h
       same false true h = sym h
       same false false h = refl
+
+-- a call that cannot be read is refused by 4, and nothing is written
+pub malformed_call : (b : List ℕ) (a c : List ℤ) → Sound b a → (e : Refusal) → (Err BadCall, a) ≡ on_words (act (schema_of b) (call_read (Err e) c) (view (schema_of b) a))
+unfolding act
+malformed_call b a c h e = turn_same {t = act (schema_of b) (call_read (Err e) c) (view (schema_of b) a)} h.ready.fit refl
+
+-- a row that must be live is not, or is
+pub other_than_live : {v : Bool} → v ≡ false → not (beq v true) ≡ true
+other_than_live e = rw e refl
+
+pub as_live : {v : Bool} → v ≡ true → not (beq v true) ≡ false
+as_live e = rw e refl
 
 -- ---- every row found
 module _ (ws : List ℤ) (c i k : ℕ) {m : ℕ} {null : Bool} (e : m ≡ nat_of (get_or ws 3 𝟘)) (f : null ≡ bit i m) where

@@ -1,20 +1,20 @@
-// A call that was read and is not refused by 4 or 10: insert, update, delete, those of all rows found, and the kinds that transactions has.
+// A call that was read and is not refused by 10: insert, update, delete, those of all rows found, and the kinds that transactions has.
 // `clean` says that every journal word past the records in use is known to be zero.
 
 #![tactic(auto)]
 
-ghost use Rattle.std.specs.Prelude.{◌≡◌, ◌<◌, pos, length, get_or, drop};
+ghost use Rattle.std.specs.Prelude.{◌≡◌, true, ◌<◌, pos, length, get_or, drop};
 ghost use Rattle.schema.specs.Records.{table_of};
 ghost use Rattle.schema.specs.Fields.{schema_of};
 ghost use Rattle.rules.specs.Values.{nat_of};
-ghost use Rattle.rules.specs.Rows.{live_image};
+ghost use Rattle.rules.specs.Rows.{deleted_image, live_image};
 ghost use Rattle.rules.specs.Calls;
 ghost use Rattle.rules.specs.Step.{act};
 ghost use Rattle.rules.specs.Area.{view, on_words};
 ghost use Rattle.bridge.specs.Ready.{Sound};
 ghost use Rattle.area.specs.Spare.{Spare};
-ghost use Rattle.call_form.specs.Requests.{call_of, judged};
-ghost use Rattle.calls.specs.RowCall.{RowCall, placed_statement};
+ghost use Rattle.call_form.specs.Requests.{call_of, call_read, judged};
+ghost use Rattle.calls.specs.RowCall.{RowCall, given_row, placed_statement};
 ghost use Rattle.calls.specs.FoundCall.{cell_of, FoundCall};
 
 use call_form::{ColumnPlace, Request, RowPlace};
@@ -31,22 +31,35 @@ fn given_image(schema: &Schema, call: &[i64], t: usize) -> [i64; 9]
     images::live_image(columns, call)
 }
 
-// Kinds 1, 2 and 3: changes a row to an image, if it is live or not as `live` says.
-fn change_row(
+// Kinds 1 and 2: writes a row as the call's words give it, if it is live or not as `live` says. That is asked first: the image of a
+// refused call is not made.
+fn write_row(
     schema: &Schema,
     area: &mut [i64],
+    call: &[i64],
     place: RowPlace,
     live: bool,
-    image: [i64; 9],
     clean: bool,
 ) -> Answer
-    requires { RowCall schema.now.bytes area.old place × Spare clean (schema_of schema.now.bytes) area.old }
-    ensures { (result, area.new) ≡ on_words (placed_statement (schema_of schema.now.bytes) place live image (view (schema_of schema.now.bytes) area.old)) }
+    requires { (RowCall schema.now.bytes area.old place × (length call.now ≡ 12)) × Spare clean (schema_of schema.now.bytes) area.old }
+    ensures { (result, area.new) ≡ on_words (placed_statement (schema_of schema.now.bytes) place live (given_row (schema_of schema.now.bytes) place call.now) (view (schema_of schema.now.bytes) area.old)) }
 {
     if change_parts::is_live_row(schema, area, place.table, place.row) != live {
         return Err(Refusal::RowState);
     }
+    let image = given_image(schema, call, place.table);
     statements::change_row(schema, area, place.table, place.row, image, clean)
+}
+
+// Kind 3: deletes a row, if it is live.
+fn delete_row(schema: &Schema, area: &mut [i64], place: RowPlace, clean: bool) -> Answer
+    requires { RowCall schema.now.bytes area.old place × Spare clean (schema_of schema.now.bytes) area.old }
+    ensures { (result, area.new) ≡ on_words (placed_statement (schema_of schema.now.bytes) place true deleted_image (view (schema_of schema.now.bytes) area.old)) }
+{
+    if !change_parts::is_live_row(schema, area, place.table, place.row) {
+        return Err(Refusal::RowState);
+    }
+    statements::change_row(schema, area, place.table, place.row, [0i64; 9], clean)
 }
 
 // Column c, with NULL by bit i of word 3, and the value of word k.
@@ -93,8 +106,8 @@ fn update_where(
     statements::change_found(schema, area, place.table, sought, Given::Set(cell), clean)
 }
 
-// Carries out a call that was read.
-pub fn carry_out(
+// Carries out a call by the request that was read.
+fn carry_out_request(
     schema: &Schema,
     area: &mut [i64],
     call: &[i64],
@@ -105,15 +118,9 @@ pub fn carry_out(
     ensures { (result, area.new) ≡ on_words (act (schema_of schema.now.bytes) (call_of request call.now) (view (schema_of schema.now.bytes) area.old)) }
 {
     match request {
-        Request::Insert(place) => {
-            let image = given_image(schema, call, place.table);
-            change_row(schema, area, place, false, image, clean)
-        }
-        Request::Update(place) => {
-            let image = given_image(schema, call, place.table);
-            change_row(schema, area, place, true, image, clean)
-        }
-        Request::Delete(place) => change_row(schema, area, place, true, [0i64; 9], clean),
+        Request::Insert(place) => write_row(schema, area, call, place, false, clean),
+        Request::Update(place) => write_row(schema, area, call, place, true, clean),
+        Request::Delete(place) => delete_row(schema, area, place, clean),
         Request::Begin => transactions::begin(schema, area),
         Request::Savepoint => transactions::savepoint(schema, area),
         Request::Release(a) => transactions::release(schema, area, a, clean),
@@ -122,5 +129,22 @@ pub fn carry_out(
         Request::Commit => transactions::commit(schema, area, clean),
         Request::DeleteWhere(place) => delete_where(schema, area, call, place, clean),
         Request::UpdateWhere(place) => update_where(schema, area, call, place, clean),
+    }
+}
+
+// Carries out a call as it was read: refused by 4 where it could not be.
+pub fn carry_out(
+    schema: &Schema,
+    area: &mut [i64],
+    call: &[i64],
+    read: Result<Request, Refusal>,
+    clean: bool,
+) -> Answer
+    requires { Sound schema.now.bytes area.old × ((call_read read call.now ≡ judged (schema_of schema.now.bytes) (Calls.parse call.now)) × Spare clean (schema_of schema.now.bytes) area.old) }
+    ensures { (result, area.new) ≡ on_words (act (schema_of schema.now.bytes) (call_read read call.now) (view (schema_of schema.now.bytes) area.old)) }
+{
+    match read {
+        Ok(request) => carry_out_request(schema, area, call, request, clean),
+        Err(_) => Err(Refusal::BadCall),
     }
 }

@@ -25,7 +25,7 @@ fn call_area(schema: &Schema, area: &mut [i64], call: &[i64]) -> Answer
     if !area_form::is_undamaged(schema, area) {
         return Err(Refusal::Damaged);
     }
-    calls::carry_out(schema, area, call, request, false)
+    calls::carry_out(schema, area, call, Ok(request), false)
 }
 
 // A call on an area that calls led to from a fresh one, under a schema that was accepted: only refusal 4, then the call.
@@ -35,7 +35,7 @@ pub fn next(schema: &[u8], area: &mut [i64], call: &[i64]) -> Answer
 {
     let schema = Schema::new(schema);
     let asked = call_form::read_call(&schema, call)?;
-    calls::carry_out(&schema, area, call, asked, true)
+    calls::carry_out(&schema, area, call, Ok(asked), true)
 }
 
 // ---- public operations

@@ -8,7 +8,7 @@ ghost use Rattle.laws.specs.Reached.{Reached};
 ghost use Rattle.call_lines.specs.Runs.{call_count, after};
 
 use lines::Text;
-use reports::Progress;
+use reports::{Progress, Reporter};
 use rules::Answer;
 use run_tally::Tally;
 use std::io;
@@ -55,14 +55,14 @@ fn read_schema(reader: &mut impl Read, bytes: &mut [u8]) -> io::Result<usize>
     Ok(16 + rest)
 }
 
-// A run: the schema, an area, the tally and the lines of a piece. That calls led to the area stands in the clauses: `Reached`
+// A run: the schema, an area, and what reports its answers. That calls led to the area stands in the clauses: `Reached`
 // says by which calls, so it is no proposition and no ghost field.
 #[derive(Drop)]
 struct Run<'a> {
     schema: &'a [u8],
     area: &'a mut [i64],
-    progress: Progress<'a>,
-    ghost room: { 65536 ≤ length progress.text.out.now },
+    reporter: Reporter<'a>,
+    ghost room: { 65536 ≤ length reporter.text.out.now },
 }
 
 impl Run<'_> {
@@ -77,22 +77,24 @@ impl Run<'_> {
     ) -> io::Result<usize>
         requires { Reached self.old.schema.now self.old.area.now × (64 * call_count (length input.old) ≤ 65536) }
         ensures ok { IfOk result
-            (λ n. (self.new.area.now, self.new.progress.tally) ≡ after self.old.schema.now (take n input.new) self.old.area.now self.old.progress.tally) }
+            (λ n. (self.new.area.now, self.new.reporter.tally) ≡ after self.old.schema.now (take n input.new) self.old.area.now self.old.reporter.tally) }
         ensures err { OnErr result
-            ((n : ℕ) × (self.new.area.now ≡ (after self.old.schema.now (take n input.new) self.old.area.now self.old.progress.tally).0)) }
+            ((n : ℕ) × (self.new.area.now ≡ (after self.old.schema.now (take n input.new) self.old.area.now self.old.reporter.tally).0)) }
+        ensures same { self.new.schema.now ≡ self.old.schema.now }
         ensures reached { Reached self.new.schema.now self.new.area.now }
     {
         let n = read_full(reader, input)?;
-        self.progress.text.used = 0;
-        call_lines::run_calls(self.schema, self.area, &input[..n], &mut self.progress);
-        writer.write_all(self.progress.text.as_bytes())?;
+        self.reporter.text.used = 0;
+        call_lines::run_calls(self.schema, self.area, &input[..n], &mut self.reporter);
+        writer.write_all(self.reporter.text.as_bytes())?;
         Ok(n)
     }
 
     // Runs the calls piece by piece until the input ends: at a piece that is not full.
-    fn run_input(&mut self, reader: &mut impl Read, writer: &mut impl Write) -> io::Result<Tally>
+    fn run_input(&mut self, reader: &mut impl Read, writer: &mut impl Write) -> io::Result<Progress>
         requires { Reached self.old.schema.now self.old.area.now }
-        ensures { Reached self.new.schema.now self.new.area.now }
+        ensures same { self.new.schema.now ≡ self.old.schema.now }
+        ensures reached { Reached self.new.schema.now self.new.area.now }
     {
         let mut input = [0u8; 65472];
         for _ in 0..u64::MAX {
@@ -101,7 +103,7 @@ impl Run<'_> {
                 break;
             }
         }
-        Ok(self.progress.tally)
+        Ok(self.reporter.progress())
     }
 }
 
@@ -112,10 +114,10 @@ fn run_area(
     schema: &[u8],
     area: &mut [i64],
     out: &mut [u8],
-) -> io::Result<Tally>
+) -> io::Result<Progress>
     requires { 65536 ≤ length out.old }
 {
-    let mut progress = Progress {
+    let mut reporter = Reporter {
         tally: Tally::default(),
         text: Text { out, used: 0 },
     };
@@ -125,14 +127,14 @@ fn run_area(
             let mut run = Run {
                 schema,
                 area,
-                progress,
+                reporter,
             };
             run.run_input(reader, writer)
         }
         Err(_) => {
-            progress.report(answer);
-            writer.write_all(progress.text.as_bytes())?;
-            Ok(progress.tally)
+            reporter.report(answer);
+            writer.write_all(reporter.text.as_bytes())?;
+            Ok(reporter.progress())
         }
     }
 }
@@ -148,11 +150,11 @@ fn main(rt: HostRuntime) -> io::Result<()> {
     let length = read_schema(&mut reader, &mut bytes)?;
     let schema = &bytes[..length];
     let n = fresh_area::words_taken(schema, words.len());
-    let tally = run_area(&mut reader, &mut writer, schema, &mut words[..n], &mut out)?;
+    let progress = run_area(&mut reader, &mut writer, schema, &mut words[..n], &mut out)?;
     let mut text = Text {
         out: &mut out,
         used: 0,
     };
-    text.put_tally_line(tally);
+    text.put_tally_line(progress.tally);
     writer.write_all(text.as_bytes())
 }

@@ -11,9 +11,16 @@ use lines::{Figures, Text};
 use rules::Answer;
 use run_tally::Tally;
 
-// How far a run has come: its tally, and its lines.
+// How far a run has come: its tally, and how many bytes of the output buffer its lines take.
+#[derive(Clone, Copy)]
+pub struct Progress {
+    pub tally: Tally,
+    pub used: usize,
+}
+
+// What reports a run's answers: its tally, and its lines.
 #[derive(Drop)]
-pub struct Progress<'a> {
+pub struct Reporter<'a> {
     pub tally: Tally,
     pub text: Text<'a>,
 }
@@ -37,7 +44,17 @@ fn figures_of(answer: Answer) -> Figures
     }
 }
 
-impl Progress<'_> {
+impl Reporter<'_> {
+    // How far the run has come.
+    pub fn progress(&self) -> Progress
+        ensures { (result.tally ≡ self.now.tally) × (result.used ≡ self.now.text.used) }
+    {
+        Progress {
+            tally: self.tally,
+            used: self.text.used,
+        }
+    }
+
     // Writes the line of an answer, and counts it.
     pub fn report(&mut self, answer: Answer)
         requires { self.old.text.used + 64 ≤ length self.old.text.out.now }

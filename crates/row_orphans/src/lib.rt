@@ -107,9 +107,9 @@ struct Turn {
 }
 
 // How many child rows of foreign key k, which has no window, lose their parent row by the turn of a row of its parent table.
-fn plain_stranded(schema: &Schema, area: &[i64], k: usize, turn: Turn) -> usize
-    requires { Placed schema.now.bytes area.now turn.t turn.r × PlainParent schema.now.bytes turn.t k }
-    ensures { (result ≡ stranded_rows (key_of (schema_of schema.now.bytes) k) turn.t turn.r turn.old turn.new (work_of (schema_of schema.now.bytes) area.now).tabs) × (result ≤ 1024) }
+fn plain_stranded(schema: &Schema, area: &[i64], k: usize, turn: &Turn) -> usize
+    requires { Placed schema.now.bytes area.now turn.now.t turn.now.r × PlainParent schema.now.bytes turn.now.t k }
+    ensures { (result ≡ stranded_rows (key_of (schema_of schema.now.bytes) k) turn.now.t turn.now.r turn.now.old turn.now.new (work_of (schema_of schema.now.bytes) area.now).tabs) × (result ≤ 1024) }
 {
     let t = turn.t;
     let old = turn.old;
@@ -128,9 +128,9 @@ fn plain_stranded(schema: &Schema, area: &[i64], k: usize, turn: Turn) -> usize
 }
 
 // The same, for a key with a window: its columns and its days are looked at, of a key without one the pairs alone.
-fn window_stranded(schema: &Schema, area: &[i64], k: usize, turn: Turn) -> usize
-    requires { Placed schema.now.bytes area.now turn.t turn.r × (WindowedKey schema.now.bytes k × ((key_of (schema_of schema.now.bytes) k).parent ≡ turn.t)) }
-    ensures { (result ≡ stranded_rows (key_of (schema_of schema.now.bytes) k) turn.t turn.r turn.old turn.new (work_of (schema_of schema.now.bytes) area.now).tabs) × (result ≤ 1024) }
+fn window_stranded(schema: &Schema, area: &[i64], k: usize, turn: &Turn) -> usize
+    requires { Placed schema.now.bytes area.now turn.now.t turn.now.r × (WindowedKey schema.now.bytes k × ((key_of (schema_of schema.now.bytes) k).parent ≡ turn.now.t)) }
+    ensures { (result ≡ stranded_rows (key_of (schema_of schema.now.bytes) k) turn.now.t turn.now.r turn.now.old turn.now.new (work_of (schema_of schema.now.bytes) area.now).tabs) × (result ≤ 1024) }
 {
     let key = windows::window_key(schema, k);
     if !windows::key_changes(turn.old, turn.new, key) {
@@ -140,9 +140,9 @@ fn window_stranded(schema: &Schema, area: &[i64], k: usize, turn: Turn) -> usize
 }
 
 // How many child rows of foreign key k lose their parent row by the turn of a row.
-fn stranded_rows(schema: &Schema, area: &[i64], k: usize, windowed: bool, turn: Turn) -> usize
-    requires { Placed schema.now.bytes area.now turn.t turn.r × KindOf schema.now.bytes k windowed }
-    ensures { (result ≡ stranded_rows (key_of (schema_of schema.now.bytes) k) turn.t turn.r turn.old turn.new (work_of (schema_of schema.now.bytes) area.now).tabs) × (result ≤ 1024) }
+fn stranded_rows(schema: &Schema, area: &[i64], k: usize, windowed: bool, turn: &Turn) -> usize
+    requires { Placed schema.now.bytes area.now turn.now.t turn.now.r × KindOf schema.now.bytes k windowed }
+    ensures { (result ≡ stranded_rows (key_of (schema_of schema.now.bytes) k) turn.now.t turn.now.r turn.now.old turn.now.new (work_of (schema_of schema.now.bytes) area.now).tabs) × (result ≤ 1024) }
 {
     let parent = schema.parent(k);
     if parent != turn.t {
@@ -156,9 +156,9 @@ fn stranded_rows(schema: &Schema, area: &[i64], k: usize, windowed: bool, turn: 
 
 // The orphans of foreign key k that a row makes by having the new image and not the old one: itself, and the child rows that the
 // old one would serve. `keys` has the keys that touch the table; another and a broken one have none.
-fn key_orphans(schema: &Schema, area: &[i64], keys: TableKeys, k: usize, turn: Turn) -> usize
-    requires { Placed schema.now.bytes area.now turn.t turn.r × (KeysOf schema.now.bytes turn.t keys × (k < length (schema_of schema.now.bytes).keys)) }
-    ensures { (result ≡ RowOrphans.row_orphans (key_of (schema_of schema.now.bytes) k) turn.t turn.r turn.new turn.old (work_of (schema_of schema.now.bytes) area.now).tabs) × (result ≤ 1025) }
+fn key_orphans(schema: &Schema, area: &[i64], keys: TableKeys, k: usize, turn: &Turn) -> usize
+    requires { Placed schema.now.bytes area.now turn.now.t turn.now.r × (KeysOf schema.now.bytes turn.now.t keys × (k < length (schema_of schema.now.bytes).keys)) }
+    ensures { (result ≡ RowOrphans.row_orphans (key_of (schema_of schema.now.bytes) k) turn.now.t turn.now.r turn.now.new turn.now.old (work_of (schema_of schema.now.bytes) area.now).tabs) × (result ≤ 1025) }
 {
     if !numbers::bit_of(k, keys.whole) {
         return 0;
@@ -189,7 +189,7 @@ pub fn row_counts(
     };
     let mut counts = [0i64; 32];
     for k in 0..schema.key_count() {
-        let c = key_orphans(schema, area, keys, k, turn);
+        let c = key_orphans(schema, area, keys, k, &turn);
         counts[k] = words::word_of(c);
     }
     counts

@@ -156,17 +156,17 @@ pub fn has_value(area: &[i64], p: usize, w: usize, c: usize, v: i64) -> bool
 }
 
 // Whether a row has no NULL in a sought key's columns, and has its values there.
-fn holds_key(row: &[i64], key: SoughtKey) -> bool
-    requires { (length row.now ≤ 9) × SoughtIn (length row.now) key }
-    ensures { result ≡ holds_key (sought_folds key) (sought_columns key) (sought_values key) row.now }
+fn holds_key(row: &[i64], key: &SoughtKey) -> bool
+    requires { (length row.now ≤ 9) × SoughtIn (length row.now) key.now }
+    ensures { result ≡ holds_key (sought_folds key.now) (sought_columns key.now) (sought_values key.now) row.now }
 {
     (0..key.n).all(|i| holds_value(row, numbers::bit_of(i, key.folded), key.cs[i], key.vs[i]))
 }
 
 // Whether the row at p is live and has a sought key.
-pub fn has_key(area: &[i64], p: usize, w: usize, key: SoughtKey) -> bool
-    requires { RowAt area.now p w × SoughtIn w key }
-    ensures { result ≡ has_sought key (row_in area.now p w) }
+pub fn has_key(area: &[i64], p: usize, w: usize, key: &SoughtKey) -> bool
+    requires { RowAt area.now p w × SoughtIn w key.now }
+    ensures { result ≡ has_sought key.now (row_in area.now p w) }
 {
     let row = &area[p..p + w];
     holds_key(row, key) && is_live(words::nat_at(row, 0))

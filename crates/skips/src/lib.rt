@@ -119,7 +119,7 @@ impl RowTest for SoughtKey {
     ghost fits = { λ s w. (0 < w) × ((w ≤ 9) × SoughtIn w s) };
 
     fn passes(&self, area: &[i64], p: usize, w: usize) -> bool {
-        rows::has_key(area, p, w, *self)
+        rows::has_key(area, p, w, self)
     }
 }
 

@@ -9,7 +9,7 @@ pub loop-i-init : goal.loop-i-init
 loop-i-init c =
     let a = c.args in
     let bytes = a.bytes.now in
-    let r = run_at a.area.now a.progress.now in
+    let r = run_at a.area.now a.reporter.now in
     let all : c.div_ceil-i-end.result - 0 ≡ call_count (length bytes) = omega (arith, c.div_ceil-i-end.ensures, count_up (length bytes)) in
     record {
       led = ap (λ m. run_from a.schema.now bytes m 0 r) all ∙ run_all_lem a.schema.now bytes r;
@@ -29,7 +29,7 @@ loop-i-preserved c =
     let s = c.args.schema.now in
     let bytes = c.args.bytes.now in
     let l = c.loop-i in
-    let r = run_at l.area l.progress in
+    let r = run_at l.area l.reporter in
     let told = one_call s (call_at bytes l.i) r c.call_at-answer.ensures c.report.ensures.counted c.report.ensures.put.written in
     record {
       led = run_step s bytes c.div_ceil-i-end.result l.i r c.loop-i-test.true told ∙ l.invariant.led;
@@ -43,7 +43,7 @@ returns-clause-ran c =
     let s = c.args.schema.now in
     let bytes = c.args.bytes.now in
     let l = c.loop-i in
-    let r = run_at l.area l.progress in
+    let r = run_at l.area l.reporter in
     let none : c.div_ceil-i-end.result - l.i ≡ 0 = omega (arith, c.loop-i-test.false) in
     sym (ap (λ m. run_from s bytes m l.i r) none ∙ run_none s bytes l.i r) ∙ l.invariant.led
 

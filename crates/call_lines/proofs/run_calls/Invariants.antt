@@ -8,8 +8,8 @@ use Rattle.call_lines.proofs.run_calls.Given as goal
 abbrev pub invariant-loop-i : goal.invariant-loop-i
 invariant-loop-i l =
     record {
-      led : run_from l.schema l.bytes (l.i-end - l.i) l.i (run_at l.area l.progress) ≡ ran l.schema l.bytes (run_at l.initial.area l.initial.progress);
-      used : l.progress.text.used ≤ l.initial.progress.text.used + 64 * l.i;
-      same : SameBuffer l.initial.progress.text l.progress.text;
+      led : run_from l.schema l.bytes (l.i-end - l.i) l.i (run_at l.area l.reporter) ≡ ran l.schema l.bytes (run_at l.initial.area l.initial.reporter);
+      used : l.reporter.text.used ≤ l.initial.reporter.text.used + 64 * l.i;
+      same : SameBuffer l.initial.reporter.text l.reporter.text;
       reached : Reached l.schema l.area;
     }

@@ -17,7 +17,7 @@ pub returns-then-not-bit_of : goal.returns-then-not-bit_of
 returns-then-not-bit_of c =
     let a = c.args in
     let miss = not_whole c.requires.1.0 a.k c.requires.1.1 c.bit_of.ensures c.if-not-bit_of.true in
-    (others_none a.turn.t a.turn.r a.turn.new a.turn.old (work_of (schema_of a.schema.now.bytes) a.area.now).tabs (key_of (schema_of a.schema.now.bytes) a.k) miss, omega arith)
+    (others_none a.turn.now.t a.turn.now.r a.turn.now.new a.turn.now.old (work_of (schema_of a.schema.now.bytes) a.area.now).tabs (key_of (schema_of a.schema.now.bytes) a.k) miss, omega arith)
 
 pub bit_of-windowed-requires : goal.bit_of-windowed-requires
 bit_of-windowed-requires c = omega (arith, (accepted_valid _ c.requires.0.ready.accepted).few, c.requires.1.1)

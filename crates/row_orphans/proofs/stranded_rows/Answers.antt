@@ -13,7 +13,7 @@ returns-then-parent-turn c =
     let k = key_of (schema_of a.schema.now.bytes) a.k in
     let tabs = (work_of (schema_of a.schema.now.bytes) a.area.now).tabs in
     let same = same_width a.schema.now.bytes c.requires.0.ready.accepted a.k c.requires.1.whole_key.key in
-    (none_other k same a.turn.t a.turn.r a.turn.old a.turn.new tabs (λ e. c.if-parent-turn.true (c.parent-parent.ensures ∙ e)), omega arith)
+    (none_other k same a.turn.now.t a.turn.now.r a.turn.now.old a.turn.now.new tabs (λ e. c.if-parent-turn.true (c.parent-parent.ensures ∙ e)), omega arith)
 
 pub window_stranded-requires : goal.window_stranded-requires
 window_stranded-requires c =

@@ -4,4 +4,4 @@ use Rattle.hoofrun.proofs.Run.run_input.Goals as goal
 
 pub run_piece-requires : goal.run_piece-requires
 unfolding call_count
-run_piece-requires g c = (c.loop.invariant, omega arith)
+run_piece-requires g c = (c.loop.invariant.1, omega arith)

@@ -1,7 +1,7 @@
 use mathlib.Core.Path.{◌∙◌}
 use Rattle.lines.proofs.TextLaws.{puts_as}
 use Rattle.reports.proofs.ReportLaws.{count_told, line_told}
-use Rattle.reports.proofs.Progress.report.Goals as goal
+use Rattle.reports.proofs.Reporter.report.Goals as goal
 
 pub returns-clause-counted : goal.returns-clause-counted
 returns-clause-counted c =
